@@ -4,3 +4,8 @@ pub mod ColumnSets
 pub mod Sorts
 pub mod Closures
 pub mod TreeForm
+pub mod Words
+pub mod Faults
+pub mod Tables
+pub mod Decisions
+pub mod Judging
