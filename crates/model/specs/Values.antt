@@ -9,7 +9,6 @@ use Rattle.std.specs.declared.option.Option.{Option}
 use Rattle.std.specs.declared.option.Option.the-variants.{Some, None}
 
 infix 40 _∈_
-
 -- A value is a number or a text, which is its bytes.
 pub data Value : Type 0 where
   num : ℕ → Value
