@@ -67,8 +67,8 @@ read-header size (x ∷ h) (y ∷ b) = cond (eqb x y) (read-header size h b) (ba
 
 -- the number whose groups stand next, where `more` groups may come and those before make n
 abbrev pub read-groups : ℕ → ℕ → List ℕ → Option (ℕ × List ℕ)
-read-groups more n [] = None
-read-groups zero n (x ∷ b) = None
+read-groups zero n b = None
+read-groups (suc more) n [] = None
 read-groups (suc more) n (x ∷ b) = cond (ltb x 0x80) (Some (n * 0x80 + x, b)) (read-groups more (n * 0x80 + (x - 0x80)) b)
 
 -- A first group of 80 hexadecimal is padding.
