@@ -9,3 +9,4 @@ pub mod Faults
 pub mod Tables
 pub mod Decisions
 pub mod Judging
+pub mod Banks
