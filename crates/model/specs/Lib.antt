@@ -9,3 +9,11 @@ pub mod Faults
 pub mod Tables
 pub mod Decisions
 pub mod Judging
+pub mod Facts
+pub mod Conditions
+pub mod Revision
+pub mod Selecting
+pub mod Dropping
+pub mod Renaming
+pub mod Projecting
+pub mod Joining
