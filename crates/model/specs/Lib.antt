@@ -17,3 +17,7 @@ pub mod Dropping
 pub mod Renaming
 pub mod Projecting
 pub mod Joining
+pub mod Refusals
+pub mod Piles
+pub mod Ledger
+pub mod Promise
