@@ -30,17 +30,45 @@ pub struct Heading<'a> {
 pub enum Command<'a> {
     Help,
     Fresh,
-    Table { name: &'a [u8], storage: Storage, room: u32, columns: Vec<Heading<'a>> },
-    Column { heading: Heading<'a> },
-    Dep { left: Vec<&'a [u8]>, right: Vec<&'a [u8]> },
+    Table {
+        name: &'a [u8],
+        storage: Storage,
+        room: u32,
+        columns: Vec<Heading<'a>>,
+    },
+    Column {
+        heading: Heading<'a>,
+    },
+    Dep {
+        left: Vec<&'a [u8]>,
+        right: Vec<&'a [u8]>,
+    },
     Seal,
-    Load { name: &'a [u8], bytes: Vec<u8> },
-    Bank { name: &'a [u8], size: u32 },
-    Rows { name: &'a [u8] },
-    Read { name: &'a [u8], path: &'a [u8] },
-    Write { name: &'a [u8], path: &'a [u8] },
-    Try { count: u32 },
-    Put { count: u32 },
+    Load {
+        name: &'a [u8],
+        bytes: Vec<u8>,
+    },
+    Bank {
+        name: &'a [u8],
+        size: u32,
+    },
+    Rows {
+        name: &'a [u8],
+    },
+    Read {
+        name: &'a [u8],
+        path: &'a [u8],
+    },
+    Write {
+        name: &'a [u8],
+        path: &'a [u8],
+    },
+    Try {
+        count: u32,
+    },
+    Put {
+        count: u32,
+    },
 }
 
 // What a line is: passed over, a command, or neither.
@@ -147,7 +175,12 @@ fn table<'a>(heap: Global, words: &[&'a [u8]]) -> Result<Option<Command<'a>>, Al
     let Some(columns) = headings(heap, rest)? else {
         return Ok(None);
     };
-    Ok(Some(Command::Table { name: *name, storage, room, columns }))
+    Ok(Some(Command::Table {
+        name: *name,
+        storage,
+        room,
+        columns,
+    }))
 }
 
 fn is_arrow(word: &[u8]) -> bool {
@@ -201,7 +234,11 @@ fn load<'a>(heap: Global, words: &[&'a [u8]]) -> Result<Option<Command<'a>>, All
     Ok(Some(Command::Load { name: *name, bytes }))
 }
 
-fn arguments<'a>(heap: Global, verb: Verb, words: &[&'a [u8]]) -> Result<Option<Command<'a>>, AllocError> {
+fn arguments<'a>(
+    heap: Global,
+    verb: Verb,
+    words: &[&'a [u8]],
+) -> Result<Option<Command<'a>>, AllocError> {
     match verb {
         Verb::Table => table(heap, words),
         Verb::Dep => dependency(heap, words),
@@ -262,8 +299,14 @@ fn with_two<'a>(verb: Verb, first: &'a [u8], second: &'a [u8]) -> Option<Command
             };
             Some(Command::Bank { name: first, size })
         }
-        Verb::Read => Some(Command::Read { name: first, path: second }),
-        Verb::Write => Some(Command::Write { name: first, path: second }),
+        Verb::Read => Some(Command::Read {
+            name: first,
+            path: second,
+        }),
+        Verb::Write => Some(Command::Write {
+            name: first,
+            path: second,
+        }),
         _ => None,
     }
 }

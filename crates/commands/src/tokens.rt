@@ -79,32 +79,36 @@ fn ends_token(text: &[u8]) -> bool
 }
 
 // The token that the text begins with, and what stands behind it.
-fn first_token(text: &[u8]) -> Option<(Token<'_>, &[u8])>
-{
+fn first_token(text: &[u8]) -> Option<(Token<'_>, &[u8])> {
     match text {
         [b'"', inner @ ..] => quoted_token(inner),
         _ => plain_token(text),
     }
 }
 
-fn quoted_token(inner: &[u8]) -> Option<(Token<'_>, &[u8])>
-{
+fn quoted_token(inner: &[u8]) -> Option<(Token<'_>, &[u8])> {
     let (held, after) = split_run(Class::Held, inner);
     let [_, rest @ ..] = after else {
         return None;
     };
-    if ends_token(rest) { Some((Token::Quoted(held), rest)) } else { None }
+    if ends_token(rest) {
+        Some((Token::Quoted(held), rest))
+    } else {
+        None
+    }
 }
 
-fn plain_token(text: &[u8]) -> Option<(Token<'_>, &[u8])>
-{
+fn plain_token(text: &[u8]) -> Option<(Token<'_>, &[u8])> {
     let (word, rest) = split_run(Class::Sign, text);
-    if !word.is_empty() && ends_token(rest) { Some((Token::Plain(word), rest)) } else { None }
+    if !word.is_empty() && ends_token(rest) {
+        Some((Token::Plain(word), rest))
+    } else {
+        None
+    }
 }
 
 // The tokens of a text, or none where it has malformed ones.
-pub fn tokens<'a>(heap: Global, text: &'a [u8]) -> Result<Option<Vec<Token<'a>>>, AllocError>
-{
+pub fn tokens<'a>(heap: Global, text: &'a [u8]) -> Result<Option<Vec<Token<'a>>>, AllocError> {
     let mut all = Vec::new(heap);
     let mut rest = text;
     while !rest.is_empty() {
@@ -122,8 +126,7 @@ pub fn tokens<'a>(heap: Global, text: &'a [u8]) -> Result<Option<Vec<Token<'a>>>
 }
 
 // The tokens of a text, where all are plain.
-pub fn words<'a>(heap: Global, text: &'a [u8]) -> Result<Option<Vec<&'a [u8]>>, AllocError>
-{
+pub fn words<'a>(heap: Global, text: &'a [u8]) -> Result<Option<Vec<&'a [u8]>>, AllocError> {
     let Some(all) = tokens(heap, text)? else {
         return Ok(None);
     };
