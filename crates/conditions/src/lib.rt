@@ -1,0 +1,20 @@
+//! Conditions: what reads columns of a row and admits it or not. Written conditions, and picks.
+mod interface;
+mod places;
+mod trees;
+
+pub use interface::Condition;
+pub use interface::admits_all;
+pub use interface::reads_all;
+pub use places::Place;
+pub use places::PlaceDebug;
+pub use places::PlaceEq;
+pub use places::PlacePartialEq;
+pub use trees::Comparison;
+pub use trees::ComparisonDebug;
+pub use trees::ComparisonEq;
+pub use trees::ComparisonPartialEq;
+pub use trees::Operand;
+pub use trees::OperandDebug;
+pub use trees::Written;
+pub use trees::WrittenDebug;
