@@ -10,20 +10,20 @@ use Rattle.conditions.specs.declared.trees.Operand.the-variants.{Column, Cell}
 use Rattle.conditions.specs.declared.trees.Written.{Written}
 use Rattle.conditions.specs.declared.trees.Written.the-variants.{Compared, Not′, Bracket′, And′, Or′}
 
-abbrev pub sign : Comparison → model.Comparison
-sign Equal = model.equals
-sign Unequal = model.differs
-sign Less = model.less
-sign AtMost = model.at-most
-sign Greater = model.greater
-sign AtLeast = model.at-least
+abbrev pub sign-of : Comparison → model.Comparison
+sign-of Equal = model.equals
+sign-of Unequal = model.differs
+sign-of Less = model.less
+sign-of AtMost = model.at-most
+sign-of Greater = model.greater
+sign-of AtLeast = model.at-least
 
-abbrev pub operand : Operand → model.Operand
-operand (Column p) = model.column (p .at)
-operand (Cell c) = model.constant (value c)
+abbrev pub operand-of : Operand → model.Operand
+operand-of (Column p) = model.column (p .at)
+operand-of (Cell c) = model.constant (value c)
 
 abbrev pub meaning : Written → model.Condition
-meaning (Compared p c x) = model.compared (p .at) (sign c) (operand x)
+meaning (Compared p c x) = model.compared (p .at) (sign-of c) (operand-of x)
 meaning (Not′ p k) = model.negated (meaning k)
 meaning (Bracket′ p k) = model.bracket (meaning k)
 meaning (And′ p k q l) = model.both (meaning k) (meaning l)

@@ -2,6 +2,7 @@
 mod interface;
 mod places;
 mod trees;
+mod truth;
 
 pub use interface::Condition;
 pub use interface::admits_all;
@@ -18,3 +19,4 @@ pub use trees::Operand;
 pub use trees::OperandDebug;
 pub use trees::Written;
 pub use trees::WrittenDebug;
+pub use truth::WrittenCondition;
