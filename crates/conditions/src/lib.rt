@@ -1,4 +1,5 @@
 //! Conditions: what reads columns of a row and admits it or not. Written conditions, and picks.
+mod building;
 mod interface;
 mod places;
 mod trees;
