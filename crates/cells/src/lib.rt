@@ -49,3 +49,6 @@ pub use words::WordPartialEq;
 pub use words::spelling::is_keyword;
 pub use words::spelling::is_name;
 pub use words::spelling::is_word;
+
+#[cfg(test)]
+mod tests;
