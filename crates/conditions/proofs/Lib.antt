@@ -1,3 +1,4 @@
+pub mod Choosing
 pub mod Columns
 pub mod Parts
 pub mod Splitting

@@ -1,2 +1,4 @@
 pub mod Reading
 pub mod Meaning
+pub mod Picks
+pub mod Picked

@@ -1,6 +1,7 @@
 //! Conditions: what reads columns of a row and admits it or not. Written conditions, and picks.
 mod building;
 mod interface;
+mod picking;
 mod places;
 mod trees;
 mod truth;
@@ -8,6 +9,9 @@ mod truth;
 pub use interface::Condition;
 pub use interface::admits_all;
 pub use interface::reads_all;
+pub use picking::Pick;
+pub use picking::PickDebug;
+pub use picking::choosing::kind_of;
 pub use places::Place;
 pub use places::PlaceDebug;
 pub use places::PlaceEq;
