@@ -2,3 +2,5 @@ pub mod Reading
 pub mod Meaning
 pub mod Picks
 pub mod Picked
+pub mod Resolving
+pub mod Found

@@ -3,6 +3,7 @@ mod building;
 mod interface;
 mod picking;
 mod places;
+mod settling;
 mod trees;
 mod truth;
 
