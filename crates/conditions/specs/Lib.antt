@@ -5,3 +5,4 @@ pub mod Picked
 pub mod Resolving
 pub mod Found
 pub mod Placed
+pub mod Mixed
