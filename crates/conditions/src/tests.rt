@@ -61,13 +61,23 @@ fn picks(rt: LibcRuntime) -> Result<(), Fail> {
     let turned = Pick::new(heap, b"bank", texts(heap, "Pads", "Bass")?);
     check(turned.is_err())?;
     let mut columns = Vec::new(heap);
-    columns.push(Column { word: Word::new(heap, b"title")?, kind: Kind::Num })?;
-    columns.push(Column { word: Word::new(heap, b"bank")?, kind: Kind::Text })?;
+    columns.push(Column {
+        word: Word::new(heap, b"title")?,
+        kind: Kind::Num,
+    })?;
+    columns.push(Column {
+        word: Word::new(heap, b"bank")?,
+        kind: Kind::Text,
+    })?;
     let unknown = Pick::new(heap, b"author", texts(heap, "Bass", "Pads")?)?;
     check(unknown.at(&columns, 3, 0).is_err())?;
     let pick = Pick::new(heap, b"bank", texts(heap, "Bass", "Pads")?)?.at(&columns, 3, 0)?;
-    let row = Row { cells: texts(heap, "Glass", "Pads")? };
+    let row = Row {
+        cells: texts(heap, "Glass", "Pads")?,
+    };
     check(pick.admits(&row))?;
-    let other = Row { cells: texts(heap, "Pads", "Keys")? };
+    let other = Row {
+        cells: texts(heap, "Pads", "Keys")?,
+    };
     check(!pick.admits(&other))
 }
