@@ -9,3 +9,9 @@ pub mod Armstrong
 pub mod Testing
 pub mod Named
 pub mod Looking
+pub mod Meeting
+pub mod Merging
+pub mod Selecting
+pub mod Renamed
+pub mod Joined
+pub mod Dropped
