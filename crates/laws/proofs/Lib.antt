@@ -15,3 +15,8 @@ pub mod Selecting
 pub mod Renamed
 pub mod Joined
 pub mod Dropped
+pub mod Conditioned
+pub mod Refusing
+pub mod Piling
+pub mod Short
+pub mod Judging
