@@ -88,7 +88,7 @@ kind-of-cell k (b ∷ C) [] c e s = absurd s
 kind-of-cell zero (b ∷ C) (v ∷ t) c e s = subst (λ x. Of-kind (x .kind) v) (some-inj b c e) (s .0)
 kind-of-cell (suc k) (b ∷ C) (v ∷ t) c e s = kind-of-cell k C t c e (s .1)
 
-shaped-put : (k : ℕ) (C : List Column) (t : Tuple) (c : Column) (v : Value) → column-at C k ≡ Some c → Of-kind (c .kind) v → Shaped (without k C) t → Shaped C (add-at k v t)
+pub shaped-put : (k : ℕ) (C : List Column) (t : Tuple) (c : Column) (v : Value) → column-at C k ≡ Some c → Of-kind (c .kind) v → Shaped (without k C) t → Shaped C (add-at k v t)
 shaped-put k [] t c v e out s = absurd (not-none c e)
 shaped-put zero (b ∷ C) t c v e out s = (subst (λ x. Of-kind (x .kind) v) (sym (some-inj b c e)) out, s)
 shaped-put (suc k) (b ∷ C) [] c v e out s = absurd s
@@ -386,7 +386,7 @@ module _ (o : Order) (O : Total o) where
       new-kind-at p out (hit n h e) = kind-of-cell k (S .columns) n (Y .column .0) at-k (MI .shaped n h)
       new-kind-at p out (miss f) = Y .column .2
 
-      new-kind : (t : Tuple) → Of-kind (Y .column .0 .kind) (new t)
+      pub new-kind : (t : Tuple) → Of-kind (Y .column .0 .kind) (new t)
       new-kind t = new-kind-at (agrees X (add-at k a t)) (find (agrees X (add-at k a t)) I) (found (agrees X (add-at k a t)) I)
 
       -- a part that reads the column alone admits the new cell

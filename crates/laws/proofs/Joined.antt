@@ -89,7 +89,7 @@ module _ (o : Order) (O : Total o) where
         (λ c e h g p. clash (has-column U (e .word)) (subst (λ w. has-column U w ≡ true) p (is-column U c h)) (no-column e g))
 
     -- shapes
-    shape-left : (t : Tuple) → Shaped C t → Shaped U (project C U t)
+    pub shape-left : (t : Tuple) → Shaped C t → Shaped U (project C U t)
     shape-left t s = shaped-map (λ c. value-of C t (c .word)) U (λ c h. kind-at C t distinct-all s c (in-append-left c U (others U V) h))
 
     kind-right : (t : Tuple) → Shaped C t → (c : Column) → c ∈ V → Of-kind (c .kind) (value-of C t (c .word))
@@ -100,7 +100,7 @@ module _ (o : Order) (O : Total o) where
         (subst (λ x. Of-kind (w .0 .kind) (value-of C t x)) p (kind-at C t distinct-all s (w .0) (in-append-left (w .0) U (others U V) (w .1)))))
         (λ e. kind-at C t distinct-all s c (in-append-right c U (others U V) (in-others c h e)))
 
-    shape-right : (t : Tuple) → Shaped C t → Shaped V (project C V t)
+    pub shape-right : (t : Tuple) → Shaped C t → Shaped V (project C V t)
     shape-right t s = shaped-map (λ c. value-of C t (c .word)) V (kind-right t s)
 
     shape-combine : (u v : Tuple) → Shaped U u → Shaped V v → Shaped C (combine U V u v)
@@ -364,12 +364,12 @@ module _ (o : Order) (O : Total o) where
     }
 
   -- stores of both sides
-  stored-before : (A B : List Store) (I : List Relation) → Stored o (A ++ B) I → Stored o A (left-stores A I)
+  pub stored-before : (A B : List Store) (I : List Relation) → Stored o (A ++ B) I → Stored o A (left-stores A I)
   stored-before [] B I s = tt
   stored-before (a ∷ A) B [] s = absurd s
   stored-before (a ∷ A) B (R ∷ I) s = (s .0, stored-before A B I (s .1))
 
-  stored-after : (A B : List Store) (I : List Relation) → Stored o (A ++ B) I → Stored o B (right-stores A I)
+  pub stored-after : (A B : List Store) (I : List Relation) → Stored o (A ++ B) I → Stored o B (right-stores A I)
   stored-after [] B I s = s
   stored-after (a ∷ A) B [] s = absurd s
   stored-after (a ∷ A) B (R ∷ I) s = stored-after A B I (s .1)

@@ -20,3 +20,4 @@ pub mod Refusing
 pub mod Piling
 pub mod Short
 pub mod Judging
+pub mod Alike

@@ -18,7 +18,7 @@ shaped-up zero w (c ∷ C) (v ∷ t) h = h
 shaped-up (suc k) w (c ∷ C) [] h = h
 shaped-up (suc k) w (c ∷ C) (v ∷ t) h = (h .0, shaped-up k w C t (h .1))
 
-shaped-down : (k : ℕ) (w : List ℕ) (C : List Column) (t : Tuple) → Shaped (rename-at k w C) t → Shaped C t
+pub shaped-down : (k : ℕ) (w : List ℕ) (C : List Column) (t : Tuple) → Shaped (rename-at k w C) t → Shaped C t
 shaped-down k w [] t h = h
 shaped-down zero w (c ∷ C) [] h = h
 shaped-down zero w (c ∷ C) (v ∷ t) h = h
