@@ -21,3 +21,6 @@ pub mod Piling
 pub mod Short
 pub mod Judging
 pub mod Alike
+pub mod Keeping
+pub mod Promising
+pub mod Calling
