@@ -21,6 +21,27 @@ use Rattle.laws.proofs.Members.{map-cong}
 use Rattle.laws.proofs.Piling.{views-stand}
 use Rattle.laws.proofs.Refusing.{faults-exact}
 
+module _ (o : Order) where
+  -- empty tables
+  empty-meets : (S : Sort) → Meets o S []
+  empty-meets S = record { ascending = tt; shaped = λ t h. absurd h; admits = λ p g t h. absurd h; deps = λ d g s t h. absurd h }
+
+  empty-stored : (T : List Store) → Stored o T (empty T .relations)
+  empty-stored [] = tt
+  empty-stored (s ∷ T) = (empty-meets (s .sort), empty-stored T)
+
+  empty-fits : (T : List Store) → Fits T (empty T .relations)
+  empty-fits [] = tt
+  empty-fits (s ∷ T) = (omega arith, empty-fits T)
+
+  empty-rows : (T : List Store) (p : ℕ) → relation-at (empty T .relations) p ≡ []
+  empty-rows [] p = refl
+  empty-rows (s ∷ T) zero = refl
+  empty-rows (s ∷ T) (suc p) = empty-rows T p
+
+  pub empty-begins : (T : List Store) → Begins-empty o T
+  empty-begins T = record { meets = empty-stored T; within-room = empty-fits T; no-rows = empty-rows T }
+
 module _ (o : Order) (O : Total o) where
   -- one table
   meets-at : (T : List Store) (L : List Relation) (p : ℕ) → Stored o T L → p < length T → Meets o (table-at T p .sort) (relation-at L p)
@@ -175,26 +196,6 @@ module _ (o : Order) (O : Total o) where
   call-stored T z h f (try v J) V = (h, f)
   call-stored T z h f (put v J) V = (put-stored T z h f v V J, put-fits T z h f v V J)
   call-stored T z h f (close-view v) V = (h, f)
-
-  -- empty tables
-  empty-meets : (S : Sort) → Meets o S []
-  empty-meets S = record { ascending = tt; shaped = λ t h. absurd h; admits = λ p g t h. absurd h; deps = λ d g s t h. absurd h }
-
-  empty-stored : (T : List Store) → Stored o T (empty T .relations)
-  empty-stored [] = tt
-  empty-stored (s ∷ T) = (empty-meets (s .sort), empty-stored T)
-
-  empty-fits : (T : List Store) → Fits T (empty T .relations)
-  empty-fits [] = tt
-  empty-fits (s ∷ T) = (omega arith, empty-fits T)
-
-  empty-rows : (T : List Store) (p : ℕ) → relation-at (empty T .relations) p ≡ []
-  empty-rows [] p = refl
-  empty-rows (s ∷ T) zero = refl
-  empty-rows (s ∷ T) (suc p) = empty-rows T p
-
-  pub empty-begins : (T : List Store) → Begins-empty o T
-  empty-begins T = record { meets = empty-stored T; within-room = empty-fits T; no-rows = empty-rows T }
 
   -- a view of empty tables shows nothing
   first-empty : (L : List Relation) (ps : List ℕ) → ((p : ℕ) → p ∈ ps → relation-at L p ≡ []) → first (stores-of ps L) ≡ []

@@ -94,7 +94,6 @@ module _ (o : Order) where
     is-meets M = and-both a (b && (c && e)) (is-ascending o R (M .ascending)) (and-both b (c && e) (is-every (shaped (S .columns)) R (λ t g. is-shaped (S .columns) t (M .shaped t g)))
         (and-both c e (is-every (λ p. every (p .admits) R) (S .parts) (λ p g. is-every (p .admits) R (M .admits p g))) (is-every (λ d. meets-dep d R) (S .deps) (λ d g. is-dep d R (M .deps d g)))))
 
-
 pub meets-exact : (o : Order) (S : Sort) (R : Relation) → Meets o S R ↔ (meets o S R ≡ true)
 meets-exact o S R = (is-meets o S R, meets-is o S R)
 

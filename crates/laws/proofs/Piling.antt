@@ -18,7 +18,7 @@ use Rattle.laws.proofs.Members.{map-append, of-append}
 use Rattle.laws.proofs.Renamed.{rename-lawful}
 use Rattle.laws.proofs.Selecting.{select-lawful}
 
-module _ (o : Order) (O : Total o) where
+module _ (o : Order) where
   one-store : (s : Store) (I : List Relation) → Stored o (s ∷ []) I → Meets o (s .sort) (first I)
   one-store s [] h = absurd h
   one-store s (R ∷ I) h = h .0
@@ -38,8 +38,9 @@ module _ (o : Order) (O : Total o) where
     no-more = λ I h. omega arith;
   }
 
+module _ (o : Order) (O : Total o) where
   pub piles-lawful : (T : List Store) (v : Pile) → Premises o T v → Lawful o (rules o T v)
-  piles-lawful T (source p) A = stored-lawful (table-at T p) (A .1)
+  piles-lawful T (source p) A = stored-lawful o (table-at T p) (A .1)
   piles-lawful T (selecting P v) A = select-lawful o O P (rules o T v) (A .0) (piles-lawful T v (A .1))
   piles-lawful T (dropping k a v) A = drop-lawful o O k a (rules o T v) (A .0) (piles-lawful T v (A .1))
   piles-lawful T (renaming k w v) A = rename-lawful o k w (rules o T v) (A .0) (piles-lawful T v (A .1))

@@ -98,7 +98,7 @@ append-assoc : (f g h : History) → (f ++ g) ++ h ≡ f ++ (g ++ h)
 append-assoc [] g h = refl
 append-assoc (e ∷ f) g h = ap {B = History} (λ x. e ∷ x) (append-assoc f g h)
 
-module _ (o : Order) (O : Total o) where
+module _ (o : Order) where
   ledger-append : (T : List Store) (L : State) (g h : History) → ledger o T L (g ++ h) ≡ ledger o T (ledger o T L g) h
   ledger-append T L [] h = refl
   ledger-append T L (e ∷ g) h = ledger-append T (record-entry o T L e) g h
@@ -114,6 +114,26 @@ module _ (o : Order) (O : Total o) where
   pub recording : (T : List Store) (start : State) (h : History) (e : Entry) → Faithful o T start h → Rightly o T (ledger o T start h) e → Recorded o T start h e
   recording T start h e F r = record { faithful = faithful-more T start h e F r; ledger-moves = ledger-append T start h (e ∷ []) }
 
+  -- a point of a part of the history is a point of it
+  later : (past future g : History) (c : Call) (a : Answer) → Answered past g c a → Answered (past ++ future) g c a
+  later past future g c a p = (p .0 ++ future, ap (λ x. x ++ future) (p .1) ∙ append-assoc g (entry c a ∷ p .0) future, p .2)
+
+  pub every-point : (T : List Store) (start : State) (past future : History) (now : State) → Promise o T start (past ++ future) now → Promise o T start past (ledger o T start past)
+  every-point T start past future now P = record {
+    has-rows = refl;
+    meets = λ g k e. P .meets g (k ++ future) (ap (λ x. x ++ future) e ∙ append-assoc g k future);
+    within-room = λ g k e. P .within-room g (k ++ future) (ap (λ x. x ++ future) e ∙ append-assoc g k future);
+    answers = λ g c a p. P .answers g c a (later past future g c a p);
+    refuses = λ g c a v J p. P .refuses g c a v J (later past future g c a p);
+    accepts = λ g c a v J p. P .accepts g c a v J (later past future g c a p);
+    faults = λ g c x v J p. P .faults g c x v J (later past future g c (refused x) p);
+    shows-last = λ g v n a J p. P .shows-last g v n a J (later past future g (show v n) a p);
+    shows-first = λ g v n a p. P .shows-first g v n a (later past future g (show v n) a p);
+    shows-none = λ g v n a p. P .shows-none g v n a (later past future g (show v n) a p);
+    puts-back = λ g c a v J p. P .puts-back g c a v J (later past future g c a p);
+  }
+
+module _ (o : Order) (O : Total o) where
   still : (a : Answer) (L : State) → unless-memory a L L ≡ L
   still ok L = refl
   still (rows R) L = refl
@@ -211,7 +231,7 @@ module _ (o : Order) (O : Total o) where
 
     point : (h : History) → Faithful o T start h → (past : History) (c : Call) (a : Answer) → Answered h past c a → Point past c a
     point h F past c a p =
-        let w = faithful-split T start past (entry c a ∷ p .0) (subst (Faithful o T start) (p .1) F) in
+        let w = faithful-split o T start past (entry c a ∷ p .0) (subst (Faithful o T start) (p .1) F) in
         record { faithful = w .0; on-view = w .1 .0 .on-view (p .2); is-due = w .1 .0 .is-due (p .2) }
 
     held : (past : History) → Faithful o T start past → Stored o T (ledger o T start past .relations) × Fits T (ledger o T start past .relations)
@@ -223,10 +243,10 @@ module _ (o : Order) (O : Total o) where
       L = ledger o T start (l .before)
 
       parts : Faithful o T start (l .before) × Faithful o T L (entry (call (l .opening)) a ∷ l .since)
-      parts = faithful-split T start (l .before) (entry (call (l .opening)) a ∷ l .since) (subst (Faithful o T start) (l .split) F)
+      parts = faithful-split o T start (l .before) (entry (call (l .opening)) a ∷ l .since) (subst (Faithful o T start) (l .split) F)
 
       since-shown : shown o T v (ledger o T start past) ≡ shown o T v (record-entry o T L (entry (call (l .opening)) a))
-      since-shown = ap (λ g. shown o T v (ledger o T start g)) (l .split) ∙ ap (shown o T v) (ledger-append T start (l .before) (entry (call (l .opening)) a ∷ l .since))
+      since-shown = ap (λ g. shown o T v (ledger o T start g)) (l .split) ∙ ap (shown o T v) (ledger-append o T start (l .before) (entry (call (l .opening)) a ∷ l .since))
           ∙ quiet-shown T (record-entry o T L (entry (call (l .opening)) a)) v (l .since) (parts .1 .1) (l .quiet)
 
     accepted-shown : (v : Pile) → View o T v → (J : Relation) (past : History) → Faithful o T start past → Last-accepted o T v J past → shown o T v (ledger o T start past) ≡ J
@@ -252,14 +272,14 @@ module _ (o : Order) (O : Total o) where
         let b = held past (p .faithful) in
         let e = shown-again v V J past (p .faithful) l in (
           offered T M c a v J off (p .is-due) ∙ ap (λ R. verdict (due o T v R M) ok) e ∙ ap (λ x. verdict x ok) (own-accepted o O T M (b .0) (b .1) v V),
-          ledger-append T start past (entry c a ∷ []) ∙ ap (λ N. unless-memory a N M) (back-still T M (b .0) (b .1) v V J e c off) ∙ still a M,
+          ledger-append o T start past (entry c a ∷ []) ∙ ap (λ N. unless-memory a N M) (back-still T M (b .0) (b .1) v V J e c off) ∙ still a M,
         )
 
   pub promise-kept : (T : List Store) (start : State) (h : History) (now : State) → Stored o T (start .relations) → Fits T (start .relations) → Faithful o T start h → now ≡ ledger o T start h → Promise o T start h now
   promise-kept T start h now s f F r = record {
     has-rows = r;
-    meets = λ past future e. held T start s f past (faithful-split T start past future (subst (Faithful o T start) e F) .0) .0;
-    within-room = λ past future e. held T start s f past (faithful-split T start past future (subst (Faithful o T start) e F) .0) .1;
+    meets = λ past future e. held T start s f past (faithful-split o T start past future (subst (Faithful o T start) e F) .0) .0;
+    within-room = λ past future e. held T start s f past (faithful-split o T start past future (subst (Faithful o T start) e F) .0) .1;
     answers = λ past c a p. point T start s f h F past c a p .is-due;
     refuses = λ past c a v J p off. refused-exactly (rules o T v) J (view-stores v (ledger o T start past)) a (due o T v J (ledger o T start past)) refl (offered T (ledger o T start past) c a v J off (point T start s f h F past c a p .is-due));
     accepts = λ past c a v J p off. accepted-exactly (rules o T v) J (view-stores v (ledger o T start past)) a (offered T (ledger o T start past) c a v J off (point T start s f h F past c a p .is-due));
@@ -268,23 +288,4 @@ module _ (o : Order) (O : Total o) where
     shows-first = λ past v n a p k. let q = point T start s f h F past (show v n) a p in q .is-due ∙ ap (show-answer n) (quiet-shown T start v past (q .faithful) k);
     shows-none = λ past v n a p k z. let q = point T start s f h F past (show v n) a p in q .is-due ∙ ap (show-answer n) (quiet-shown T start v past (q .faithful) k ∙ shown-none o O T start s f v (q .on-view) z) ∙ nothing-shown n;
     puts-back = λ past c a v J p off l. back T start s f past c a v J (point T start s f h F past c a p) off l;
-  }
-
-  -- a point of a part of the history is a point of it
-  later : (past future g : History) (c : Call) (a : Answer) → Answered past g c a → Answered (past ++ future) g c a
-  later past future g c a p = (p .0 ++ future, ap (λ x. x ++ future) (p .1) ∙ append-assoc g (entry c a ∷ p .0) future, p .2)
-
-  pub every-point : (T : List Store) (start : State) (past future : History) (now : State) → Promise o T start (past ++ future) now → Promise o T start past (ledger o T start past)
-  every-point T start past future now P = record {
-    has-rows = refl;
-    meets = λ g k e. P .meets g (k ++ future) (ap (λ x. x ++ future) e ∙ append-assoc g k future);
-    within-room = λ g k e. P .within-room g (k ++ future) (ap (λ x. x ++ future) e ∙ append-assoc g k future);
-    answers = λ g c a p. P .answers g c a (later past future g c a p);
-    refuses = λ g c a v J p. P .refuses g c a v J (later past future g c a p);
-    accepts = λ g c a v J p. P .accepts g c a v J (later past future g c a p);
-    faults = λ g c x v J p. P .faults g c x v J (later past future g c (refused x) p);
-    shows-last = λ g v n a J p. P .shows-last g v n a J (later past future g (show v n) a p);
-    shows-first = λ g v n a p. P .shows-first g v n a (later past future g (show v n) a p);
-    shows-none = λ g v n a p. P .shows-none g v n a (later past future g (show v n) a p);
-    puts-back = λ g c a v J p. P .puts-back g c a v J (later past future g c a p);
   }
