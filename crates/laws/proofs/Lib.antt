@@ -24,3 +24,4 @@ pub mod Alike
 pub mod Keeping
 pub mod Promising
 pub mod Calling
+pub mod Shown

@@ -2,6 +2,7 @@
 //! total order of values.
 ghost use Rattle.laws.specs.Closures.{Armstrong-sound, Closure-derives, Closure-is-least, Tree-test};
 ghost use Rattle.laws.specs.Conditions.{Parts-whole};
+ghost use Rattle.laws.specs.Examples.{Examples, One-view-shown, Views-shown};
 ghost use Rattle.laws.specs.Faults.{Faults-exact, Judge-due, Show-exact};
 ghost use Rattle.laws.specs.Layers.{Drop-lawful, Join-lawful, Rename-lawful, Select-lawful, Stored-lawful};
 ghost use Rattle.laws.specs.Orders.{By-bytes-total, Equality-test, Relation-exact, Relation-unique, Tuples-total};
@@ -118,6 +119,13 @@ pub fn faults_stand() -> u8
 /// A history whose every answer is the one due keeps the promise.
 pub fn promise_stands() -> u8
     ensures { λ _. ⌜ Promise-kept × Every-point × Empty-begins × Recording ⌝ }
+{
+    0
+}
+
+/// The worked examples, computed; views that they speak of; and openings that are of one view.
+pub fn examples_stand() -> u8
+    ensures { λ _. ⌜ Examples × Views-shown × One-view-shown ⌝ }
 {
     0
 }
