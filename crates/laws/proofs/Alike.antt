@@ -23,6 +23,7 @@ use Rattle.model.specs.Sorts.{Column, Dependency, Meets, Part, Shaped, Sort, ad
 use Rattle.model.specs.Tables.{Lawful, Rules, Store, Stored}
 use Rattle.model.specs.TreeForm.{in-order}
 use Rattle.model.specs.Values.{Relation, Tuple, Value, filter, _∈_}
+use Rattle.laws.specs.Examples.{a, b, c, d}
 use Rattle.laws.specs.Views.{Alike, One-view-alike, One-view-equivalence}
 use Rattle.laws.proofs.Cells.{admitted-append, shaped-length}
 use Rattle.laws.proofs.Dropped.{cell-put, new-kind, shaped-put}

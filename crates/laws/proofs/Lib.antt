@@ -25,3 +25,4 @@ pub mod Keeping
 pub mod Promising
 pub mod Calling
 pub mod Shown
+pub mod Exactly

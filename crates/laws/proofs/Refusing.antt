@@ -17,6 +17,7 @@ use Rattle.model.specs.Orders.{Ascending, Below-first, Order, compare-tuples}
 use Rattle.model.specs.Sorts.{Agree, Dependency, Meets, Shaped, Sort, admitted, agrees}
 use Rattle.model.specs.Tables.{Store}
 use Rattle.model.specs.Values.{Relation, Tuple, any, _∈_}
+use Rattle.laws.specs.Examples.{a, b, c, d}
 use Rattle.laws.specs.Faults.{Faults-exact, Show-exact}
 use Rattle.laws.proofs.Cells.{admitted-each, agree-sym, agrees-is, each-admitted, is-agrees, is-test, test-is}
 use Rattle.laws.proofs.Meeting.{below-is, fits-is, is-fits, is-shaped, shaped-is}

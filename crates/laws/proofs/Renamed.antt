@@ -10,6 +10,7 @@ use Rattle.model.specs.Renaming.{Unused, rename, rename-at, rename-sort}
 use Rattle.model.specs.Sorts.{Column, Distinct, Meets, Shaped, all-columns}
 use Rattle.model.specs.Tables.{Lawful, Rules}
 use Rattle.model.specs.Values.{Relation, Tuple, _∈_}
+use Rattle.laws.specs.Examples.{c, d}
 
 shaped-up : (k : ℕ) (w : List ℕ) (C : List Column) (t : Tuple) → Shaped C t → Shaped (rename-at k w C) t
 shaped-up k w [] t h = h

@@ -2,9 +2,13 @@
 use mathlib.Core.Path.{_≡_}
 use Rattle.model.specs.Values.{Tuple}
 use Rattle.model.specs.Orders.{Order}
-use Rattle.model.specs.Sorts.{admitted}
+use Rattle.model.specs.Sorts.{Part, admitted}
 use Rattle.model.specs.Conditions.{Condition, admits-row, parts-of}
 
 -- the parts admit what the condition admits
 abbrev pub Parts-whole : Type 0
 Parts-whole = (o : Order) (k : Condition) (t : Tuple) → admitted (parts-of o k) t ≡ admits-row o k t
+
+-- a part is known by what it reads and admits
+abbrev pub Part-equal : Type 0
+Part-equal = (p q : Part) → p .reads ≡ q .reads → ((t : Tuple) → p .admits t ≡ q .admits t) → p ≡ q
