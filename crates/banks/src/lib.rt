@@ -1,0 +1,2 @@
+//! Banks: relations as bytes.
+mod numbers;
