@@ -16,15 +16,12 @@ impl Word {
     pub fn new(heap: Global, bytes: &[u8]) -> Result<Word, Refusal>
         ensures { λ r. ⌜ Answers (name-fault (now (bytes .entry))) (λ w. letters w ≡ now (bytes .entry)) r ⌝ }
     {
-        if !is_name(bytes) {
-            return Err(Refusal::of(Cause::Size));
-        }
         match std::str::from_utf8(bytes) {
-            Ok(s) => {
+            Ok(s) if is_name(bytes) => {
                 let text = String::from_str(heap, s)?;
                 Ok(Word { text })
             }
-            Err(_) => Err(Refusal::of(Cause::Size)),
+            _ => Err(Refusal::of(Cause::Size)),
         }
     }
 
@@ -86,19 +83,17 @@ fn is_letter(b: u8) -> bool
 }
 
 // The words that the grammar of definitions keeps for itself.
+const KEYWORDS: [&str; 9] = [
+    "and", "as", "default", "drop", "join", "not", "or", "rename", "select",
+];
+
 pub fn is_keyword(bytes: &[u8]) -> bool
     ensures { λ r. ⌜ r ≡ is-keyword (now (bytes .entry)) ⌝ }
 {
-    match bytes {
-        b"and" => true,
-        b"as" => true,
-        b"default" => true,
-        b"drop" => true,
-        b"join" => true,
-        b"not" => true,
-        b"or" => true,
-        b"rename" => true,
-        b"select" => true,
-        _ => false,
+    for word in KEYWORDS {
+        if bytes == word.as_bytes() {
+            return true;
+        }
     }
+    false
 }
