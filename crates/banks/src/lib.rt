@@ -1,2 +1,4 @@
 //! Banks: relations as bytes.
+mod columns;
+mod cursor;
 mod numbers;

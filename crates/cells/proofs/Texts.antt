@@ -27,7 +27,7 @@ text-utf8 b h =
     let rest = and-parts (leb 1 (length b)) (leb (length b) 16 && every is-text-byte b) h .1 in
     utf8-from-ascii b
     (every-ascii is-text-byte (λ x e. omega (arith, leb-true x 0x7E (and-parts (leb x 0x7E) (not (eqb x 0x22)) (and-parts (leb 0x20 x) (leb x 0x7E && not (eqb x 0x22)) e .1) .0))) b
-     (and-parts (leb (length b) 16) (every is-text-byte b) rest .1))
+    (and-parts (leb (length b) 16) (every is-text-byte b) rest .1))
 
 pub name-utf8 : (b : List ℕ) → is-name b ≡ true → Utf8 b
 name-utf8 b h =
@@ -35,7 +35,7 @@ name-utf8 b h =
     let rest = and-parts (leb 1 (length b)) (leb (length b) 12 && every is-letter b) word .1 in
     utf8-from-ascii b
     (every-ascii is-letter (λ x e. omega (arith, leb-true x 0x7A (and-parts (leb 0x61 x) (leb x 0x7A) e .1))) b
-     (and-parts (leb (length b) 12) (every is-letter b) rest .1))
+    (and-parts (leb (length b) 12) (every is-letter b) rest .1))
 
 pub utf8-true : (b : List ℕ) → Utf8 b → is-utf8 b ≡ true
 utf8-true b u = and-from (scalars (decodes b)) (same-bytes (encodes (decodes b)) b) (scalars-decodes b u) (same-bytes-decides (encodes (decodes b)) b .1 (encodes-decodes b u))

@@ -84,7 +84,15 @@ fn is_letter(b: u8) -> bool
 
 // The words that the grammar of definitions keeps for itself.
 const KEYWORDS: [&str; 9] = [
-    "and", "as", "default", "drop", "join", "not", "or", "rename", "select",
+    "and",
+    "as",
+    "default",
+    "drop",
+    "join",
+    "not",
+    "or",
+    "rename",
+    "select",
 ];
 
 pub fn is_keyword(bytes: &[u8]) -> bool

@@ -1,0 +1,22 @@
+-- What a cursor's methods answer.
+use mathlib.Core.Path.{_≡_}
+use mathlib.Core.List.{List}
+use Prim.Native.Nat.{ℕ}
+use Rattle.std.specs.declared.result.Result.{Result}
+use Rattle.std.specs.declared.result.Result.the-variants.{Ok, Err}
+use Rattle.model.specs.Banks.{Read, found, bad}
+use Rattle.cells.specs.Numbered.{number}
+use Rattle.cells.specs.declared.faults.Refusal.{Refusal}
+use Rattle.cells.specs.declared.faults.Refusal.the-variants as refusal
+use Rattle.banks.specs.declared.cursor.Cursor.{Cursor}
+
+-- the bytes that are left
+abbrev pub left : Cursor → List ℕ
+left c = c .rest .now
+
+-- A method reads what `o` says: its answer stands for the value that was found, and the bytes after it are left; or it is
+-- refused with the fault. Want of memory may take the place of either.
+abbrev pub Reads : {A B : Type 0} → (A → B) → Cursor → Cursor → Read B → Result A Refusal → Type 0
+Reads f old new o (Ok a) = (o ≡ found (f a) (left new)) × (new .size ≡ old .size) × (new .kind ≡ old .kind)
+Reads f old new o (Err (refusal.Fault e)) = (o ≡ bad (number (e .cause)) (e .place)) × (e .kind ≡ old .kind)
+Reads f old new o (Err refusal.Memory) = Unit {0}
