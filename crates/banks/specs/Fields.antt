@@ -1,10 +1,11 @@
 -- What a cursor's methods answer.
 use mathlib.Core.Path.{_≡_}
-use mathlib.Core.List.{List}
+use mathlib.Core.List.{List, map}
 use Prim.Native.Nat.{ℕ}
 use Rattle.std.specs.declared.result.Result.{Result}
 use Rattle.std.specs.declared.result.Result.the-variants.{Ok, Err}
-use Rattle.model.specs.Banks.{Read, found, bad}
+use Rattle.model.specs.Sorts.{Column}
+use Rattle.model.specs.Banks.{Read, found, bad, kind-byte}
 use Rattle.cells.specs.Numbered.{number}
 use Rattle.cells.specs.declared.faults.Refusal.{Refusal}
 use Rattle.cells.specs.declared.faults.Refusal.the-variants as refusal
@@ -13,6 +14,10 @@ use Rattle.banks.specs.declared.cursor.Cursor.{Cursor}
 -- the bytes that are left
 abbrev pub left : Cursor → List ℕ
 left c = c .rest .now
+
+-- the bytes of the columns' kinds, in a header
+abbrev pub kind-bytes : List Column → List ℕ
+kind-bytes C = map (λ c. kind-byte (c .kind)) C
 
 -- A method reads what `o` says: its answer stands for the value that was found, and the bytes after it are left; or it is
 -- refused with the fault. Want of memory may take the place of either.

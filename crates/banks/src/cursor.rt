@@ -1,12 +1,16 @@
 //! The bytes of a bank that are left to read, and the fields that are read from them.
 ghost use mathlib.Core.Path.{_≡_};
-ghost use mathlib.Core.List.{map};
+ghost use mathlib.Core.Bool.{cond};
+ghost use mathlib.Core.List.{[], _∷_, map};
 ghost use Prim.Native.Nat.{ℕ};
-ghost use Rattle.model.specs.Banks.{place-in, read-number, read-cell, read-cells};
+ghost use lib.Dec.{eqb};
+ghost use lib.ListN.{length};
+ghost use Rattle.model.specs.Banks.{header, kind-byte, place-in, read-cell, read-cells, read-count, read-header, read-number};
 ghost use Rattle.model.specs.Sorts.{texts};
 ghost use Rattle.cells.specs.Held.{kind-of, tuple, value};
+ghost use Rattle.cells.specs.Numbered.{number};
 ghost use Rattle.banks.specs.Columns.{column};
-ghost use Rattle.banks.specs.Fields.{Reads, left};
+ghost use Rattle.banks.specs.Fields.{Reads, kind-bytes, left};
 use crate::columns::Column;
 use crate::numbers;
 use cells::Cause;
@@ -20,12 +24,36 @@ use cells::is_text;
 use cells::refused;
 use std::alloc::Global;
 
+// the edition of the format
+const EDITION: u8 = 1;
+
 // What is left to read of a bank of `size` bytes, for a table of a kind.
 #[derive(Drop)]
 pub(crate) struct Cursor<'a> {
     pub(crate) rest: &'a [u8],
     pub(crate) size: usize,
     pub(crate) kind: u8,
+}
+
+// The byte of a kind.
+pub(crate) fn kind_byte(kind: Kind) -> u8
+    ensures { λ r. ⌜ r ≡ kind-byte (kind-of kind) ⌝ }
+{
+    match kind {
+        Kind::Num => 0,
+        Kind::Text => 1,
+    }
+}
+
+// Why bytes do not begin with the byte that is due.
+fn mismatch(rest: &[u8]) -> Cause
+    ensures { λ r. ⌜ number r ≡ cond (eqb (length (now (rest .entry))) 0) 23 24 ⌝ }
+{
+    if rest.is_empty() {
+        Cause::BadBytes
+    } else {
+        Cause::OtherFormat
+    }
 }
 
 impl<'a> Cursor<'a> {
@@ -89,5 +117,56 @@ impl<'a> Cursor<'a> {
             cells.push(cell)?;
         }
         Ok(Row { cells })
+    }
+    // A byte that is due.
+    fn byte(&mut self, due: u8) -> Result<(), Refusal>
+        ensures { λ r. ⌜ Reads (λ (u : Unit {0}). u) (now (self .entry)) (now (self .exit)) (read-header (now (self .entry) .size) (due ∷ []) (left (now (self .entry)))) r ⌝ }
+    {
+        match self.rest {
+            [b, rest @ ..] if *b == due => {
+                self.rest = rest;
+                Ok(())
+            }
+            rest => Err(self.bad(mismatch(rest))),
+        }
+    }
+
+    // The bytes of the columns' kinds.
+    fn kinds(&mut self, columns: &[Column]) -> Result<(), Refusal>
+        ensures { λ r. ⌜ Reads (λ (u : Unit {0}). u) (now (self .entry)) (now (self .exit)) (read-header (now (self .entry) .size) (kind-bytes (map column (now (columns .entry)))) (left (now (self .entry)))) r ⌝ }
+    {
+        for c in columns {
+            self.byte(kind_byte(c.kind))?;
+        }
+        Ok(())
+    }
+
+    // The edition, the number of columns and their kinds.
+    pub(crate) fn header(&mut self, columns: &[Column]) -> Result<(), Refusal>
+        ensures { λ r. ⌜ Reads (λ (u : Unit {0}). u) (now (self .entry)) (now (self .exit)) (read-header (now (self .entry) .size) (header (map column (now (columns .entry)))) (left (now (self .entry)))) r ⌝ }
+    {
+        match self.rest {
+            [EDITION, count, rest @ ..] if *count as usize == columns.len() => {
+                self.rest = rest;
+                self.kinds(columns)
+            }
+            [EDITION, rest @ ..] => {
+                self.rest = rest;
+                Err(self.bad(mismatch(rest)))
+            }
+            rest => Err(self.bad(mismatch(rest))),
+        }
+    }
+
+    // The row count, which may not be above the room.
+    pub(crate) fn count(&mut self, room: usize) -> Result<usize, Refusal>
+        ensures { λ r. ⌜ Reads (λ (n : ℕ). n) (now (self .entry)) (now (self .exit)) (read-count (now (self .entry) .size) room (left (now (self .entry)))) r ⌝ }
+    {
+        let above = self.bad(Cause::OutOfRoom);
+        let n = self.number()? as usize;
+        if n > room {
+            return Err(above);
+        }
+        Ok(n)
     }
 }
