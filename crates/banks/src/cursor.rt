@@ -9,9 +9,9 @@ ghost use Rattle.model.specs.Banks.{header, kind-byte, place-in, read-cell, rea
 ghost use Rattle.model.specs.Sorts.{texts};
 ghost use Rattle.cells.specs.Held.{kind-of, tuple, value};
 ghost use Rattle.cells.specs.Numbered.{number};
-ghost use Rattle.banks.specs.Columns.{column};
+ghost use Rattle.columns.specs.Named.{named-columns};
 ghost use Rattle.banks.specs.Fields.{Reads, kind-bytes, left};
-use crate::columns::Column;
+use columns::Column;
 use crate::numbers;
 use cells::Cause;
 use cells::Cell;
@@ -109,7 +109,7 @@ impl<'a> Cursor<'a> {
 
     // The cells of a row, one for each column.
     pub(crate) fn row(&mut self, heap: Global, columns: &[Column]) -> Result<Row, Refusal>
-        ensures { λ r. ⌜ Reads tuple (now (self .entry)) (now (self .exit)) (read-cells (now (self .entry) .size) (map column (now (columns .entry))) (left (now (self .entry)))) r ⌝ }
+        ensures { λ r. ⌜ Reads tuple (now (self .entry)) (now (self .exit)) (read-cells (now (self .entry) .size) (named-columns (now (columns .entry))) (left (now (self .entry)))) r ⌝ }
     {
         let mut cells = Vec::new(heap);
         for c in columns {
@@ -133,7 +133,7 @@ impl<'a> Cursor<'a> {
 
     // The bytes of the columns' kinds.
     fn kinds(&mut self, columns: &[Column]) -> Result<(), Refusal>
-        ensures { λ r. ⌜ Reads (λ (u : Unit {0}). u) (now (self .entry)) (now (self .exit)) (read-header (now (self .entry) .size) (kind-bytes (map column (now (columns .entry)))) (left (now (self .entry)))) r ⌝ }
+        ensures { λ r. ⌜ Reads (λ (u : Unit {0}). u) (now (self .entry)) (now (self .exit)) (read-header (now (self .entry) .size) (kind-bytes (named-columns (now (columns .entry)))) (left (now (self .entry)))) r ⌝ }
     {
         for c in columns {
             self.byte(kind_byte(c.kind))?;
@@ -143,7 +143,7 @@ impl<'a> Cursor<'a> {
 
     // The edition, the number of columns and their kinds.
     pub(crate) fn header(&mut self, columns: &[Column]) -> Result<(), Refusal>
-        ensures { λ r. ⌜ Reads (λ (u : Unit {0}). u) (now (self .entry)) (now (self .exit)) (read-header (now (self .entry) .size) (header (map column (now (columns .entry)))) (left (now (self .entry)))) r ⌝ }
+        ensures { λ r. ⌜ Reads (λ (u : Unit {0}). u) (now (self .entry)) (now (self .exit)) (read-header (now (self .entry) .size) (header (named-columns (now (columns .entry)))) (left (now (self .entry)))) r ⌝ }
     {
         match self.rest {
             [EDITION, count, rest @ ..] if *count as usize == columns.len() => {

@@ -1,4 +1,3 @@
 //! Banks: relations as bytes.
-mod columns;
 mod cursor;
 mod numbers;

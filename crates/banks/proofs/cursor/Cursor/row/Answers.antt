@@ -9,7 +9,7 @@ use Rattle.std.proofs.shelf.Lists.{map-push}
 use Rattle.std.proofs.shelf.Results.{err-from-errBy}
 use Rattle.model.specs.Banks.{found, bad, read-cell, read-cells}
 use Rattle.cells.specs.Held.{kind-of, value, tuple}
-use Rattle.banks.specs.Columns.{column}
+use Rattle.columns.specs.Named.{named-column}
 use Rattle.banks.specs.Fields.{left}
 use Rattle.banks.proofs.Texts.{passed-on}
 use Rattle.banks.proofs.Loops.{cells-after, cells-step, cells-stop, cells-end}
@@ -23,7 +23,7 @@ returns-in-Break-cell c =
     let s = map value (vec-items (c .loop-c .cells)) in
     let b = c .loop-c .self .rest .now in
     let k = kind-of (c .c-item .result .kind) in
-    passed-on value tuple (c .loop-c .self) (c .cell .last .self) (c .args .self .now) (c .cell .last .self) (read-cell (c .loop-c .self .size) k b) (read-cells size (map column C) (c .args .self .now .rest .now)) (c .in-Break-cell .field-0 .0) (c .from-residual .result)
+    passed-on value tuple (c .loop-c .self) (c .cell .last .self) (c .args .self .now) (c .cell .last .self) (read-cell (c .loop-c .self .size) k b) (read-cells size (map named-column C) (c .args .self .now .rest .now)) (c .in-Break-cell .field-0 .0) (c .from-residual .result)
     (c .in-Break-cell .ensures tt)
     (λ n q e. c .loop-c .inv .2 ∙ cells-stop size C (c .loop-c .c-index) (c .loop-c-test .taken) (c .c-item .result) (c .c-item .is) s b n q (ap (λ m. read-cell m k b) (sym (c .loop-c .inv .0)) ∙ e))
     (c .loop-c .inv .1) (p .1 ∙ ap Err (p .2))
@@ -42,7 +42,7 @@ loop-c-again c =
       e .2 ∙ c .loop-c .inv .1,
       c .loop-c .inv .2
           ∙ cells-step size C i (c .loop-c-test .taken) (c .c-item .result) (c .c-item .is) s (c .loop-c .self .rest .now) v (c .cell .last .self .rest .now) read
-          ∙ ap (λ t. cells-after t (read-cells size (map column (drop (i + 1) C)) (c .cell .last .self .rest .now))) more,
+          ∙ ap (λ t. cells-after t (read-cells size (map named-column (drop (i + 1) C)) (c .cell .last .self .rest .now))) more,
     )
 
 pub returns : need.returns
