@@ -18,19 +18,23 @@ use Rattle.cells.specs.declared.faults.Fault.{Fault}
 use Rattle.cells.specs.declared.faults.Refusal.{Refusal}
 use Rattle.cells.specs.declared.faults.Refusal.the-variants as refusal
 use Rattle.banks.specs.declared.cursor.Cursor.{Cursor}
-use Rattle.banks.specs.Fields.{Reads}
+use Rattle.banks.specs.Fields.{Refuses, Reads}
 use Rattle.banks.proofs.Fronts.{rest-is}
 
-pub refuses : {A B : Type 0} (f : A → B) (old new : Cursor) (o : Read B) (r : Refusal) (e : Fault) → r ≡ refusal.Fault e → o ≡ bad (number (e .cause)) (e .place) → e .kind ≡ old .kind → Reads f old new o (Err r)
-refuses f old new o r e g h k = subst (λ x. Reads f old new o (Err x)) (sym g) (h, k)
+pub refuses : {B : Type 0} (kind : ℕ) (o : Read B) (r : Refusal) (e : Fault) → r ≡ refusal.Fault e → o ≡ bad (number (e .cause)) (e .place) → e .kind ≡ kind → Refuses kind o r
+refuses kind o r e g h k = subst (Refuses kind o) (sym g) (h, k)
+
+-- an answer that is passed on as it is
+pub answered : {A B : Type 0} (f : A → B) (size kind : ℕ) (after : Cursor) (o o′ : Read B) (r : Result A Refusal) → Reads f size kind after o r → o′ ≡ o → Reads f size kind after o′ r
+answered f size kind after o o′ r h e = subst (λ x. Reads f size kind after x r) (sym e) h
 
 -- a refusal that is passed on
-carried : {A B A′ B′ : Type 0} (f : A → B) (g : A′ → B′) (old new old′ new′ : Cursor) (o : Read B) (o′ : Read B′) (e : Refusal) → Reads f old new o (Err e) → ((n p : ℕ) → o ≡ bad n p → o′ ≡ bad n p) → old .kind ≡ old′ .kind → Reads g old′ new′ o′ (Err e)
-carried f g old new old′ new′ o o′ (refusal.Fault e) h b k = (b (number (e .cause)) (e .place) (h .0), h .1 ∙ k)
-carried f g old new old′ new′ o o′ refusal.Memory h b k = tt
+carried : {B B′ : Type 0} (kind kind′ : ℕ) (o : Read B) (o′ : Read B′) (e : Refusal) → Refuses kind o e → ((n p : ℕ) → o ≡ bad n p → o′ ≡ bad n p) → kind ≡ kind′ → Refuses kind′ o′ e
+carried kind kind′ o o′ (refusal.Fault e) h b k = (b (number (e .cause)) (e .place) (h .0), h .1 ∙ k)
+carried kind kind′ o o′ refusal.Memory h b k = tt
 
-pub passed-on : {A B A′ B′ : Type 0} (f : A → B) (g : A′ → B′) (old new old′ new′ : Cursor) (o : Read B) (o′ : Read B′) (e : Refusal) (r : Result A′ Refusal) → Reads f old new o (Err e) → ((n p : ℕ) → o ≡ bad n p → o′ ≡ bad n p) → old .kind ≡ old′ .kind → r ≡ Err e → Reads g old′ new′ o′ r
-passed-on f g old new old′ new′ o o′ e r h b k q = subst (Reads g old′ new′ o′) (sym q) (carried f g old new old′ new′ o o′ e h b k)
+pub passed-on : {B A′ B′ : Type 0} (g : A′ → B′) (kind size′ kind′ : ℕ) (after′ : Cursor) (o : Read B) (o′ : Read B′) (e : Refusal) (r : Result A′ Refusal) → Refuses kind o e → ((n p : ℕ) → o ≡ bad n p → o′ ≡ bad n p) → kind ≡ kind′ → r ≡ Err e → Reads g size′ kind′ after′ o′ r
+passed-on g kind size′ kind′ after′ o o′ e r h b k q = subst (Reads g size′ kind′ after′ o′) (sym q) (carried kind kind′ o o′ e h b k)
 
 -- the bytes after a text's length
 abbrev after-length : List ℕ → List ℕ

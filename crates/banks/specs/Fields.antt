@@ -21,7 +21,10 @@ kind-bytes C = map (λ c. kind-byte (c .kind)) C
 
 -- A method reads what `o` says: its answer stands for the value that was found, and the bytes after it are left; or it is
 -- refused with the fault. Want of memory may take the place of either.
-abbrev pub Reads : {A B : Type 0} → (A → B) → Cursor → Cursor → Read B → Result A Refusal → Type 0
-Reads f old new o (Ok a) = (o ≡ found (f a) (left new)) × (new .size ≡ old .size) × (new .kind ≡ old .kind)
-Reads f old new o (Err (refusal.Fault e)) = (o ≡ bad (number (e .cause)) (e .place)) × (e .kind ≡ old .kind)
-Reads f old new o (Err refusal.Memory) = Unit {0}
+abbrev pub Refuses : {B : Type 0} → (kind : ℕ) → Read B → Refusal → Type 0
+Refuses kind o (refusal.Fault e) = (o ≡ bad (number (e .cause)) (e .place)) × (e .kind ≡ kind)
+Refuses kind o refusal.Memory = Unit {0}
+
+abbrev pub Reads : {A B : Type 0} → (A → B) → (size kind : ℕ) → Cursor → Read B → Result A Refusal → Type 0
+Reads f size kind after o (Ok a) = (o ≡ found (f a) (left after)) × (after .size ≡ size) × (after .kind ≡ kind)
+Reads f size kind after o (Err e) = Refuses kind o e

@@ -25,7 +25,7 @@ use cells::refused;
 use std::alloc::Global;
 
 // the edition of the format
-const EDITION: u8 = 1;
+pub(crate) const EDITION: u8 = 1;
 
 // What is left to read of a bank of `size` bytes, for a table of a kind.
 #[derive(Drop)]
@@ -65,7 +65,7 @@ impl<'a> Cursor<'a> {
     }
 
     pub(crate) fn number(&mut self) -> Result<u32, Refusal>
-        ensures { λ r. ⌜ Reads (λ (n : ℕ). n) (now (self .entry)) (now (self .exit)) (read-number (now (self .entry) .size) (left (now (self .entry)))) r ⌝ }
+        ensures { λ r. ⌜ Reads (λ (n : ℕ). n) (now (self .entry) .size) (now (self .entry) .kind) (now (self .exit)) (read-number (now (self .entry) .size) (left (now (self .entry)))) r ⌝ }
     {
         match numbers::number(self.rest) {
             Some((n, rest)) => {
@@ -77,7 +77,7 @@ impl<'a> Cursor<'a> {
     }
 
     fn text(&mut self, heap: Global) -> Result<Cell, Refusal>
-        ensures { λ r. ⌜ Reads value (now (self .entry)) (now (self .exit)) (read-cell (now (self .entry) .size) texts (left (now (self .entry)))) r ⌝ }
+        ensures { λ r. ⌜ Reads value (now (self .entry) .size) (now (self .entry) .kind) (now (self .exit)) (read-cell (now (self .entry) .size) texts (left (now (self .entry)))) r ⌝ }
     {
         let [length, bytes @ ..] = self.rest else {
             return Err(self.bad(Cause::BadBytes));
@@ -96,7 +96,7 @@ impl<'a> Cursor<'a> {
     }
 
     fn cell(&mut self, heap: Global, kind: Kind) -> Result<Cell, Refusal>
-        ensures { λ r. ⌜ Reads value (now (self .entry)) (now (self .exit)) (read-cell (now (self .entry) .size) (kind-of kind) (left (now (self .entry)))) r ⌝ }
+        ensures { λ r. ⌜ Reads value (now (self .entry) .size) (now (self .entry) .kind) (now (self .exit)) (read-cell (now (self .entry) .size) (kind-of kind) (left (now (self .entry)))) r ⌝ }
     {
         match kind {
             Kind::Num => {
@@ -109,7 +109,7 @@ impl<'a> Cursor<'a> {
 
     // The cells of a row, one for each column.
     pub(crate) fn row(&mut self, heap: Global, columns: &[Column]) -> Result<Row, Refusal>
-        ensures { λ r. ⌜ Reads tuple (now (self .entry)) (now (self .exit)) (read-cells (now (self .entry) .size) (named-columns (now (columns .entry))) (left (now (self .entry)))) r ⌝ }
+        ensures { λ r. ⌜ Reads tuple (now (self .entry) .size) (now (self .entry) .kind) (now (self .exit)) (read-cells (now (self .entry) .size) (named-columns (now (columns .entry))) (left (now (self .entry)))) r ⌝ }
     {
         let mut cells = Vec::new(heap);
         for c in columns {
@@ -120,7 +120,7 @@ impl<'a> Cursor<'a> {
     }
     // A byte that is due.
     fn byte(&mut self, due: u8) -> Result<(), Refusal>
-        ensures { λ r. ⌜ Reads (λ (u : Unit {0}). u) (now (self .entry)) (now (self .exit)) (read-header (now (self .entry) .size) (due ∷ []) (left (now (self .entry)))) r ⌝ }
+        ensures { λ r. ⌜ Reads (λ (u : Unit {0}). u) (now (self .entry) .size) (now (self .entry) .kind) (now (self .exit)) (read-header (now (self .entry) .size) (due ∷ []) (left (now (self .entry)))) r ⌝ }
     {
         match self.rest {
             [b, rest @ ..] if *b == due => {
@@ -133,7 +133,7 @@ impl<'a> Cursor<'a> {
 
     // The bytes of the columns' kinds.
     fn kinds(&mut self, columns: &[Column]) -> Result<(), Refusal>
-        ensures { λ r. ⌜ Reads (λ (u : Unit {0}). u) (now (self .entry)) (now (self .exit)) (read-header (now (self .entry) .size) (kind-bytes (named-columns (now (columns .entry)))) (left (now (self .entry)))) r ⌝ }
+        ensures { λ r. ⌜ Reads (λ (u : Unit {0}). u) (now (self .entry) .size) (now (self .entry) .kind) (now (self .exit)) (read-header (now (self .entry) .size) (kind-bytes (named-columns (now (columns .entry)))) (left (now (self .entry)))) r ⌝ }
     {
         for c in columns {
             self.byte(kind_byte(c.kind))?;
@@ -143,7 +143,7 @@ impl<'a> Cursor<'a> {
 
     // The edition, the number of columns and their kinds.
     pub(crate) fn header(&mut self, columns: &[Column]) -> Result<(), Refusal>
-        ensures { λ r. ⌜ Reads (λ (u : Unit {0}). u) (now (self .entry)) (now (self .exit)) (read-header (now (self .entry) .size) (header (named-columns (now (columns .entry)))) (left (now (self .entry)))) r ⌝ }
+        ensures { λ r. ⌜ Reads (λ (u : Unit {0}). u) (now (self .entry) .size) (now (self .entry) .kind) (now (self .exit)) (read-header (now (self .entry) .size) (header (named-columns (now (columns .entry)))) (left (now (self .entry)))) r ⌝ }
     {
         match self.rest {
             [EDITION, count, rest @ ..] if *count as usize == columns.len() => {
@@ -160,7 +160,7 @@ impl<'a> Cursor<'a> {
 
     // The row count, which may not be above the room.
     pub(crate) fn count(&mut self, room: usize) -> Result<usize, Refusal>
-        ensures { λ r. ⌜ Reads (λ (n : ℕ). n) (now (self .entry)) (now (self .exit)) (read-count (now (self .entry) .size) room (left (now (self .entry)))) r ⌝ }
+        ensures { λ r. ⌜ Reads (λ (n : ℕ). n) (now (self .entry) .size) (now (self .entry) .kind) (now (self .exit)) (read-count (now (self .entry) .size) room (left (now (self .entry)))) r ⌝ }
     {
         let above = self.bad(Cause::OutOfRoom);
         let n = self.number()? as usize;

@@ -23,7 +23,7 @@ returns-in-Break-cell c =
     let s = map value (vec-items (c .loop-c .cells)) in
     let b = c .loop-c .self .rest .now in
     let k = kind-of (c .c-item .result .kind) in
-    passed-on value tuple (c .loop-c .self) (c .cell .last .self) (c .args .self .now) (c .cell .last .self) (read-cell (c .loop-c .self .size) k b) (read-cells size (map named-column C) (c .args .self .now .rest .now)) (c .in-Break-cell .field-0 .0) (c .from-residual .result)
+    passed-on tuple (c .loop-c .self .kind) size (c .args .self .now .kind) (c .cell .last .self) (read-cell (c .loop-c .self .size) k b) (read-cells size (map named-column C) (c .args .self .now .rest .now)) (c .in-Break-cell .field-0 .0) (c .from-residual .result)
     (c .in-Break-cell .ensures tt)
     (λ n q e. c .loop-c .inv .2 ∙ cells-stop size C (c .loop-c .c-index) (c .loop-c-test .taken) (c .c-item .result) (c .c-item .is) s b n q (ap (λ m. read-cell m k b) (sym (c .loop-c .inv .0)) ∙ e))
     (c .loop-c .inv .1) (p .1 ∙ ap Err (p .2))

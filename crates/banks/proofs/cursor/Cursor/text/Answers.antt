@@ -9,7 +9,7 @@ use Rattle.banks.proofs.Texts.{refuses, text-none, text-found}
 use Rattle.banks.proofs.cursor.Cursor.text.Needs as need
 
 pub returns-then-not-is-text : need.returns-then-not-is-text
-returns-then-not-is-text c = refuses value (c .args .self .now) (c .args .self .now) _ (c .bad-then-not-is-text .result) _ (c .bad-then-not-is-text .ensures)
+returns-then-not-is-text c = refuses (c .args .self .now .kind) _ (c .bad-then-not-is-text .result) _ (c .bad-then-not-is-text .ensures)
     (text-none (c .args .self .now .size) (c .args .self .now .rest .now) (search needs) (omega arith) (ap is-text (sym (c .split-at .ensures .front)) ∙ sym (c .if-not-is-text .ensures tt))) refl
 
 pub returns : need.returns
