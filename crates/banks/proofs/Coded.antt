@@ -48,6 +48,10 @@ kinds-joined : (C : List Column) → kinds-of C ≡ joined (λ c. kind-byte (kin
 kinds-joined [] = refl
 kinds-joined (c ∷ C) = ap (λ (l : List ℕ). kind-byte (kind-of (c .kind)) ∷ l) (kinds-joined C)
 
+map-same : {X : Type 0} (l : List X) → map (λ x. x) l ≡ l
+map-same [] = refl
+map-same (x ∷ l) = ap (λ (m : List _). x ∷ m) (map-same l)
+
 pub row-more : (bs : List ℕ) (xs : List Cell) (i : ℕ) (x : Cell) → i < length xs → x ≡ getD xs i x → (bs ++ coded-row (map value (take i xs))) ++ coded-cell (value x) ≡ bs ++ coded-row (map value (take (i + 1) xs))
 row-more bs xs i x h e = put-more value coded-cell coded-row row-joined bs xs i x h e
 
@@ -57,3 +61,18 @@ rows-more bs xs i x h e = put-more tuple coded-row coded-rows rows-joined bs xs 
 -- the whole of a list was written
 pub whole : {X : Type 0} (F : List X → List ℕ) (bs : List ℕ) (xs : List X) (i : ℕ) → length xs ≤ i → bs ++ F (take i xs) ≡ bs ++ F xs
 whole F bs xs i h = ap (λ l. bs ++ F l) (take-all i xs h)
+
+pub kinds-more : (bs : List ℕ) (C : List Column) (i : ℕ) (c : Column) (k : ℕ) → k ≡ kind-byte (kind-of (c .kind)) → i < length C → c ≡ getD C i c → (bs ++ kinds-of (take i C)) ++ k ∷ [] ≡ bs ++ kinds-of (take (i + 1) C)
+kinds-more bs C i c k q h e =
+    ap (λ n. (bs ++ kinds-of (take i C)) ++ n ∷ []) q
+    ∙ ap (λ l. (bs ++ kinds-of l) ++ kind-byte (kind-of (c .kind)) ∷ []) (sym (map-same (take i C)))
+    ∙ put-more (λ d. d) (λ d. kind-byte (kind-of (d .kind)) ∷ []) kinds-of kinds-joined bs C i c h e
+    ∙ ap (λ l. bs ++ kinds-of l) (map-same (take (i + 1) C))
+
+-- a length, and then what has it
+pub pushed-then : (was mid last ys zs : List ℕ) (n : ℕ) → mid ≡ was ++ n ∷ [] → last ≡ mid ++ ys → ys ≡ zs → n ≡ length zs → last ≡ was ++ length zs ∷ zs
+pushed-then was mid last ys zs n p q e l = q ∙ ap (λ m. m ++ ys) p ∙ append-assoc was (n ∷ []) ys ∙ ap (λ y. was ++ n ∷ y) e ∙ ap (λ m. was ++ m ∷ zs) l
+
+-- the parts of a bank, one after another
+pub in-turn : (was a b c d h k g r : List ℕ) → a ≡ was ++ h → b ≡ a ++ k → c ≡ b ++ g → d ≡ c ++ r → d ≡ was ++ ((h ++ k) ++ (g ++ r))
+in-turn was a b c d h k g r p q s t = t ∙ ap (λ x. x ++ r) s ∙ ap (λ x. (x ++ g) ++ r) q ∙ ap (λ x. ((x ++ k) ++ g) ++ r) p ∙ simp append-assoc

@@ -11,7 +11,6 @@ ghost use Rattle.cells.specs.Held.{kind-of, tuple, value};
 ghost use Rattle.cells.specs.Numbered.{number};
 ghost use Rattle.columns.specs.Named.{named-columns};
 ghost use Rattle.banks.specs.Fields.{Reads, kind-bytes, left};
-use columns::Column;
 use crate::numbers;
 use cells::Cause;
 use cells::Cell;
@@ -22,6 +21,7 @@ use cells::RefusalFromRefused;
 use cells::Row;
 use cells::is_text;
 use cells::refused;
+use columns::Column;
 use std::alloc::Global;
 
 // the edition of the format

@@ -29,7 +29,8 @@ fn put_cell(out: &mut Vec<u8>, cell: &Cell) -> Result<(), AllocError>
         Cell::Text(s) => {
             let bytes = s.as_bytes();
             out.push(bytes.len() as u8)?;
-            out.extend_from_slice(bytes)
+            out.extend_from_slice(bytes)?;
+            Ok(())
         }
     }
 }
@@ -63,12 +64,17 @@ fn put_kinds(out: &mut Vec<u8>, columns: &[Column]) -> Result<(), AllocError>
     Ok(())
 }
 
-pub(crate) fn put_bank(out: &mut Vec<u8>, columns: &[Column], rows: &[Row]) -> Result<(), AllocError>
+pub(crate) fn put_bank(
+    out: &mut Vec<u8>,
+    columns: &[Column],
+    rows: &[Row],
+) -> Result<(), AllocError>
     requires { ⌜ length (now columns) < 256 ⌝ ∗ ⌜ length (now rows) ≤ greatest ⌝ ∗ ⌜ All (All Codable) (tuples (now rows)) ⌝ }
     ensures { λ r. ⌜ made r (λ _. vec-items (now (out .exit)) ≡ vec-items (now (out .entry)) ++ bank (named-columns (now (columns .entry))) (tuples (now (rows .entry)))) ⌝ }
 {
     out.extend_from_slice(&[EDITION, columns.len() as u8])?;
     put_kinds(out, columns)?;
     put_number(out, rows.len() as u32)?;
-    put_rows(out, rows)
+    put_rows(out, rows)?;
+    Ok(())
 }

@@ -30,4 +30,4 @@ returns-in-1-2 c =
     let same = length-map (c .args .columns .now) named-column in
     refuses (c .args .self .now .kind) _ (c .bad .result) _ (c .bad .ensures)
     (count-not-due size (length C) (kind-bytes C) b (search needs) (search needs)
-      (elim (c .in-1-2· .came) [ then-this-lt2·in-1· w ↦ λ l e. search needs | in-1·else-count-columns w ↦ λ l e. w .if-count-columns .left (e ∙ same) ]) ∙ ap (λ n. bad n (place-in size r)) (sym (c .mismatch .ensures))) refl
+    (elim (c .in-1-2· .came) [ then-this-lt2·in-1· w ↦ λ l e. search needs | in-1·else-count-columns w ↦ λ l e. w .if-count-columns .left (e ∙ same) ]) ∙ ap (λ n. bad n (place-in size r)) (sym (c .mismatch .ensures))) refl

@@ -25,8 +25,7 @@ loop-c-again c =
     let size = c .args .self .now .size in
     let x = c .kind-byte .result in
     let b = c .loop-c .self .rest .now in
-    let e = c .in-Continue-byte .ensures tt in
-    (
+    let e = c .in-Continue-byte .ensures tt in (
       e .1 ∙ c .loop-c .inv .0,
       e .2 ∙ c .loop-c .inv .1,
       c .loop-c .inv .2 ∙ kinds-step size (c .args .columns .now) (c .loop-c .c-index) (c .loop-c-test .taken) (c .c-item .result) (c .c-item .is) x (c .kind-byte .ensures) b (c .byte .last .self .rest .now) (ap (λ m. read-header m (x ∷ []) b) (sym (c .loop-c .inv .0)) ∙ e .0),
