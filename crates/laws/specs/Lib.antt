@@ -7,3 +7,4 @@ pub mod Conditions
 pub mod Faults
 pub mod Views
 pub mod Promise
+pub mod Examples

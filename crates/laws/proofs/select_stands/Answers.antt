@@ -1,0 +1,5 @@
+use Rattle.laws.proofs.Selecting.{select-lawful}
+use Rattle.laws.proofs.select_stands.Needs as need
+
+pub returns : need.returns
+returns c = λ o O. select-lawful o O
