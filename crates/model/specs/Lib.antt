@@ -9,6 +9,7 @@ pub mod Faults
 pub mod Tables
 pub mod Decisions
 pub mod Judging
+pub mod Banks
 pub mod Facts
 pub mod Conditions
 pub mod Revision

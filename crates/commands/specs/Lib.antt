@@ -1,0 +1,4 @@
+pub mod Lists
+pub mod Spelling
+pub mod Lines
+pub mod Forms
