@@ -37,6 +37,7 @@ examples = record {
   emptied = refl;
   revised = refl;
   joined-deps = refl;
+  united-once = refl;
   groups-of-128 = refl;
   padded = refl;
   written-bank = refl;

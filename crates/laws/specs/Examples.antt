@@ -60,7 +60,7 @@ Ann = text (codes "Ann")
 abbrev pub Bo : Value
 Bo = text (codes "Bo")
 
--- the tables (title, bank) with title -> bank; (bank, author) with bank -> author; and (title, bank, author) with bank -> author
+-- the tables (title, bank) with title -> bank; (bank, author) with bank -> author; (title, bank, author) with bank -> author; and with both
 abbrev pub title : Column
 title = record { word = codes "title"; kind = texts }
 
@@ -78,6 +78,9 @@ authors = record { kind = 1; sort = record { columns = bank ∷ author ∷ []; d
 
 abbrev pub songs : Store
 songs = record { kind = 1; sort = record { columns = title ∷ bank ∷ author ∷ []; deps = from-to b c ∷ []; parts = [] }; room = 128 }
+
+abbrev pub signed : Store
+signed = record { kind = 1; sort = record { columns = title ∷ bank ∷ author ∷ []; deps = from-to a b ∷ from-to b c ∷ []; parts = [] }; room = 128 }
 
 -- the rules of a pile on tables; conditions that a column has a value, picked and written
 abbrev pub on : List Store → Pile → Rules
@@ -156,6 +159,8 @@ pub record Examples : Type 0 where
   pub revised : on T₂ credits .puts ((Glass ∷ Pads ∷ Bo ∷ []) ∷ []) I₂ ≡ ((Glass ∷ Pads ∷ []) ∷ (Grit ∷ Bass ∷ []) ∷ []) ∷ ((Pads ∷ Bo ∷ []) ∷ []) ∷ []
   -- A joined dependency is as wide as the columns.
   pub joined-deps : on T₂ credits .sort .deps ≡ from-to (true ∷ false ∷ false ∷ []) (false ∷ true ∷ false ∷ []) ∷ from-to (false ∷ true ∷ false ∷ []) (false ∷ false ∷ true ∷ []) ∷ []
+  -- Joining (title, bank) with (title, bank, author), both with title -> bank: that dependency stands once.
+  pub united-once : on (titles 128 ∷ signed ∷ []) credits .sort .deps ≡ from-to (true ∷ false ∷ false ∷ []) (false ∷ true ∷ false ∷ []) ∷ from-to (false ∷ true ∷ false ∷ []) (false ∷ false ∷ true ∷ []) ∷ []
   -- 128 is 81 00; 80 00 is 23
   pub groups-of-128 : banks.groups 128 ≡ 0x81 ∷ 0x00 ∷ []
   pub padded : banks.read-number 2 (0x80 ∷ 0x00 ∷ []) ≡ banks.bad 23 0
