@@ -12,7 +12,6 @@ use Rattle.model.specs.Facts.{and-both, in-union-left, in-union-right}
 use Rattle.model.specs.Sorts.{Dependency}
 use Rattle.model.specs.Values.{any, _∈_}
 use Rattle.laws.specs.Closures.{Armstrong-sound, Closure-derives, Closure-is-least}
-use Rattle.laws.specs.Examples.{a, b, c, d}
 use Rattle.laws.proofs.Cells.{agree-within, is-within, of-union, within-is}
 use Rattle.laws.proofs.Members.{and-left, and-right, bool-cases, clash, in-any, not-false, not-true, of-any}
 

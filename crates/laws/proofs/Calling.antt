@@ -12,7 +12,6 @@ use Rattle.model.specs.Piles.{Pile, View}
 use Rattle.model.specs.Promise.{Performed}
 use Rattle.model.specs.Tables.{Store}
 use Rattle.model.specs.Values.{Relation}
-use Rattle.laws.specs.Examples.{c, d}
 use Rattle.laws.proofs.Refusing.{show-exact}
 
 module _ (o : Order) where

@@ -11,7 +11,6 @@ use Rattle.model.specs.Facts.{and-both, cell-tail, has-tail, or-left, or-right}
 use Rattle.model.specs.Revision.{with-cells}
 use Rattle.model.specs.Sorts.{Agree, Column, Kind, Part, Shaped, admitted, agrees, of-kind}
 use Rattle.model.specs.Values.{Relation, Tuple, Value, cell, is-in, num, same-bytes, same-list, same-tuple, same-value, tail, text, _∈_}
-use Rattle.laws.specs.Examples.{a, b, c}
 use Rattle.laws.specs.Orders.{Equality-test}
 use Rattle.laws.specs.Sorts.{Sets-test}
 use Rattle.laws.proofs.Members.{and-left, and-right, bool-cases, clash, in-any, not-false, not-true, of-any}

@@ -9,7 +9,6 @@ use Rattle.model.specs.Closures.{closure, grow, turns}
 use Rattle.model.specs.ColumnSets.{ColumnSet, union, within}
 use Rattle.model.specs.Sorts.{Agree, Dependency, Meets-deps}
 use Rattle.model.specs.Values.{Relation, Tuple, _∈_}
-use Rattle.laws.specs.Examples.{a, b, d}
 use Rattle.laws.proofs.Cells.{agree-within, of-union, within-is}
 
 -- rows of a relation that meets the dependencies agree on the closure of what they agree on

@@ -4,7 +4,6 @@ use mathlib.Core.List.{List, [], _∷_, _++_}
 use mathlib.Core.Bool.{Bool, true, false, not, _&&_, _||_}
 use Rattle.model.specs.Conditions.{admits-row, both, bracket, compared, either, negated, parts-of}
 use Rattle.laws.specs.Conditions.{Parts-whole}
-use Rattle.laws.specs.Examples.{b, c}
 use Rattle.laws.proofs.Cells.{admitted-append}
 
 and-true : (b : Bool) → (b && true) ≡ b

@@ -15,7 +15,6 @@ use Rattle.model.specs.Sorts.{Agree, Column, Dependency, Distinct, Meets, Part,
 use Rattle.model.specs.Tables.{Lawful, Rules}
 use Rattle.model.specs.TreeForm.{Formed, Leads, Right-once, Tree-form, more, one, sets}
 use Rattle.model.specs.Values.{Relation, Tuple, Value, cell, find, _∈_}
-use Rattle.laws.specs.Examples.{a, b, c, d}
 use Rattle.laws.proofs.Cells.{Of-kind, agree-sym, agree-trans, agrees-is, is-agrees, is-some, same-length, same-sym, shaped-length, some-is}
 use Rattle.laws.proofs.Members.{Found, bool-cases, clash, found, hit, in-filter, in-map, miss, of-filter, of-map}
 use Rattle.laws.proofs.Orders.{ascending-relation, in-relation, length-relation, of-relation, same-members}

@@ -17,7 +17,6 @@ use Rattle.model.specs.Sorts.{Agree, Column, Dependency, Meets, Meets-deps, Sha
 use Rattle.model.specs.Tables.{Lawful, Rules, Stored}
 use Rattle.model.specs.TreeForm.{Formed}
 use Rattle.model.specs.Values.{Relation, Tuple, Value, cell, filter, find, is-in, _∈_}
-use Rattle.laws.specs.Examples.{a, b, c, d}
 use Rattle.laws.specs.Puts.{Drops, Filled, Is-revised, Joins, Matches, Merged-row, Selects}
 use Rattle.laws.proofs.Cells.{agree-sym, agree-trans, agrees-is, in-is, is-agrees, is-in-of, is-tuple, tuple-is}
 use Rattle.laws.proofs.Dropped.{agree-off, agree-refl, cell-put, cell-put-skip, determining-of, drop-put-meets, emptied, new-kind, off-X, put-without, shaped-put, the-dep}

@@ -19,7 +19,6 @@ use Rattle.model.specs.Sorts.{Agree, Column, Dependency, Distinct, Meets, Meets
 use Rattle.model.specs.Tables.{Lawful, Rules, Store, Stored, first}
 use Rattle.model.specs.TreeForm.{Formed}
 use Rattle.model.specs.Values.{Relation, Tuple, any, filter, find, is-in, same-bytes, same-tuple, _∈_}
-use Rattle.laws.specs.Examples.{a, b, c, d}
 use Rattle.laws.proofs.Cells.{Of-kind, agree-within, bytes-is, is-tuple, same-is, tuple-is}
 use Rattle.laws.proofs.Closing.{closure-agree}
 use Rattle.laws.proofs.Members.{Found, and-left, and-right, bool-cases, clash, filter-all, found, hit, in-any, in-append-left, in-append-right, in-filter, in-map, map-append, map-at, map-cong, miss, not-false, not-true, of-any, of-append, of-filter, of-map}
@@ -393,7 +392,7 @@ module _ (o : Order) (O : Total o) where
   after-append (a ∷ A) [] Z s = absurd s
   after-append (a ∷ A) (R ∷ X) Z s = after-append A X Z (s .1)
 
-  before-after : (A B : List Store) (I : List Relation) → Stored o (A ++ B) I → left-stores A I ++ right-stores A I ≡ I
+  pub before-after : (A B : List Store) (I : List Relation) → Stored o (A ++ B) I → left-stores A I ++ right-stores A I ≡ I
   before-after [] B I s = refl
   before-after (a ∷ A) B [] s = absurd s
   before-after (a ∷ A) B (R ∷ I) s = ap {B = List Relation} (λ l. R ∷ l) (before-after A B I (s .1))

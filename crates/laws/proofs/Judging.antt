@@ -18,7 +18,6 @@ use Rattle.model.specs.Refusals.{Due, Rows-right, breaks-dependency, no-room, n
 use Rattle.model.specs.Sorts.{Dependency, Meets-deps, Sort, admitted, agrees}
 use Rattle.model.specs.Tables.{Fits, Rules, Store}
 use Rattle.model.specs.Values.{Relation, Tuple, any, _∈_}
-use Rattle.laws.specs.Examples.{a, b, c, d}
 use Rattle.laws.specs.Faults.{Judge-due}
 use Rattle.laws.proofs.Cells.{admitted-each, agrees-is, is-agrees, is-test, test-is}
 use Rattle.laws.proofs.Meeting.{is-shaped, shaped-is}

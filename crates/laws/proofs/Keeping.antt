@@ -15,7 +15,6 @@ use Rattle.model.specs.Promise.{On-view, empty}
 use Rattle.model.specs.Sorts.{Meets, Sort}
 use Rattle.model.specs.Tables.{Fits, Rules, Store, Stored, first}
 use Rattle.model.specs.Values.{Relation, _∈_}
-use Rattle.laws.specs.Examples.{c, d}
 use Rattle.laws.specs.Promise.{Begins-empty}
 use Rattle.laws.specs.Views.{Stands}
 use Rattle.laws.proofs.Members.{map-cong}

@@ -26,3 +26,4 @@ pub mod Promising
 pub mod Calling
 pub mod Shown
 pub mod Exactly
+pub mod Passing

@@ -10,7 +10,6 @@ use Rattle.std.specs.Options.{mapped}
 use Rattle.model.specs.Dropping.{column-at}
 use Rattle.model.specs.Sorts.{Column, Distinct, lookup}
 use Rattle.model.specs.Values.{same-bytes, _∈_}
-use Rattle.laws.specs.Examples.{a, b, c, d}
 use Rattle.laws.specs.Sorts.{Lookup-right}
 use Rattle.laws.proofs.Cells.{bytes-is, is-bytes}
 use Rattle.laws.proofs.Members.{clash}

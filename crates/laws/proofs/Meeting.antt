@@ -13,7 +13,6 @@ use Rattle.model.specs.Orders.{Ascending, Below-first, Order, compare-tuples}
 use Rattle.model.specs.Sorts.{Column, Dependency, Meets, Meets-dep, Shaped, Sort, agrees, of-kind}
 use Rattle.model.specs.Tables.{Exceeds, Fits, Store}
 use Rattle.model.specs.Values.{Relation, Tuple, every}
-use Rattle.laws.specs.Examples.{d}
 use Rattle.laws.specs.Sorts.{Meets-test}
 use Rattle.laws.proofs.Cells.{agrees-is, is-agrees, is-test, or-cases, test-is}
 use Rattle.laws.proofs.Members.{and-left, and-right, bool-cases, clash, not-false, not-true}

@@ -7,7 +7,6 @@ use Rattle.std.specs.declared.option.Option.{Option}
 use Rattle.std.specs.declared.option.Option.the-variants.{Some, None}
 use Rattle.model.specs.Facts.{or-left, or-right}
 use Rattle.model.specs.Values.{any, filter, find, _∈_}
-use Rattle.laws.specs.Examples.{a, b}
 
 pub in-append-left : {A : Type 0} (a : A) (l r : List A) → a ∈ l → a ∈ (l ++ r)
 in-append-left a [] r h = absurd h

@@ -11,7 +11,6 @@ use Rattle.model.specs.Selecting.{Reads-no-output}
 use Rattle.model.specs.Sorts.{Agree, Dependency, Meets, Part, Shaped, Sort, agrees}
 use Rattle.model.specs.TreeForm.{Formed, in-order}
 use Rattle.model.specs.Values.{Relation, Tuple, find, _∈_}
-use Rattle.laws.specs.Examples.{a, b, d}
 use Rattle.laws.proofs.Cells.{agree-sym, agree-trans, agree-within, agrees-is, is-agrees, same-length}
 use Rattle.laws.proofs.Members.{Found, found, hit, in-append-right, in-map, miss, of-append, of-map}
 use Rattle.laws.proofs.Orders.{ascending-relation, of-relation}

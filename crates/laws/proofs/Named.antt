@@ -13,7 +13,6 @@ use Rattle.model.specs.Facts.{and-both, has-tail, or-left, or-right}
 use Rattle.model.specs.Projecting.{cell-or-zero, has-column, has-word, lift, map-within, project, value-of, value-past}
 use Rattle.model.specs.Sorts.{Agree, Column, Distinct, Shaped, all-columns, lookup}
 use Rattle.model.specs.Values.{Tuple, Value, cell, filter, same-bytes, tail, _∈_}
-use Rattle.laws.specs.Examples.{a, b, c, d}
 use Rattle.laws.proofs.Cells.{Of-kind, bytes-is, is-bytes, or-cases, some-is}
 use Rattle.laws.proofs.Members.{and-left, and-right, bool-cases, in-any, map-cong, of-any, of-append, of-filter}
 

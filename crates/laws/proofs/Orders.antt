@@ -8,7 +8,6 @@ use native.Mathlib.Omega.{arith}
 use lib.ListN.{length}
 use Rattle.model.specs.Orders.{Ascending, Below, Below-first, Order, Total, by-bytes, compare-tuples, insert, insert-at, lexical, relation-of, then-by}
 use Rattle.model.specs.Values.{Relation, Tuple, Value, filter, num, text, _∈_}
-use Rattle.laws.specs.Examples.{a, b, c, d}
 use Rattle.laws.specs.Orders.{Relation-exact, Relation-unique}
 use Rattle.laws.proofs.Members.{of-filter}
 

@@ -11,7 +11,6 @@ use Rattle.model.specs.Sorts.{Meets}
 use Rattle.model.specs.Tables.{Lawful, Store, Stored, first}
 use Rattle.model.specs.TreeForm.{Formed}
 use Rattle.model.specs.Values.{Relation, _∈_}
-use Rattle.laws.specs.Examples.{a}
 use Rattle.laws.specs.Views.{Stands}
 use Rattle.laws.proofs.Dropped.{drop-lawful}
 use Rattle.laws.proofs.Joined.{join-lawful}

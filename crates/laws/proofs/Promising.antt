@@ -19,7 +19,6 @@ use Rattle.model.specs.Promise.{Answered, Faithful, Last-accepted, Last-shown, 
 use Rattle.model.specs.Sorts.{Meets}
 use Rattle.model.specs.Tables.{Exceeds, Fits, Rules, Store, Stored}
 use Rattle.model.specs.Values.{Relation}
-use Rattle.laws.specs.Examples.{a, b, c, d}
 use Rattle.laws.specs.Promise.{Recorded}
 use Rattle.laws.proofs.Alike.{one-view-alike}
 use Rattle.laws.proofs.Judging.{judge-due}

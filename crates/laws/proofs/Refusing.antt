@@ -17,7 +17,6 @@ use Rattle.model.specs.Orders.{Ascending, Below-first, Order, compare-tuples}
 use Rattle.model.specs.Sorts.{Agree, Dependency, Meets, Shaped, Sort, admitted, agrees}
 use Rattle.model.specs.Tables.{Store}
 use Rattle.model.specs.Values.{Relation, Tuple, any, _∈_}
-use Rattle.laws.specs.Examples.{a, b, c, d}
 use Rattle.laws.specs.Faults.{Faults-exact, Show-exact}
 use Rattle.laws.proofs.Cells.{admitted-each, agree-sym, agrees-is, each-admitted, is-agrees, is-test, test-is}
 use Rattle.laws.proofs.Meeting.{below-is, fits-is, is-fits, is-shaped, shaped-is}
@@ -46,6 +45,10 @@ test-none false out n k p e = absurd (not-some (record { number = n; kind = k; p
 none-test : (b : Bool) (out : Option Fault) (n k p : ℕ) → b ≡ true → out ≡ None → cond b out (fault n k p) ≡ None
 none-test true out n k p e g = g
 none-test false out n k p e g = absurd (false≢true e)
+
+pub or-then-cong : (x y z : Option Fault) → (x ≡ None → y ≡ z) → or-then x y ≡ or-then x z
+or-then-cong None y z f = f refl
+or-then-cong (Some g) y z f = refl
 
 module _ (o : Order) where
   -- by row

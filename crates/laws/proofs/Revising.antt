@@ -10,7 +10,6 @@ use Rattle.model.specs.Revision.{Revised, revise, revise-by, revise-once, taken
 use Rattle.model.specs.Sorts.{Agree, Column, Dependency, Meets-dep, Meets-deps, Shaped, Sort, agrees}
 use Rattle.model.specs.TreeForm.{Formed, in-order}
 use Rattle.model.specs.Values.{Relation, Tuple, cell, find, _∈_}
-use Rattle.laws.specs.Examples.{a, d}
 use Rattle.laws.specs.Revision.{Revision-characterised}
 use Rattle.laws.proofs.Cells.{agree-sym, agree-trans, agrees-is, is-agrees, shaped-with, with-in, with-out, with-same}
 use Rattle.laws.proofs.Members.{Found, bool-cases, found, hit, miss}

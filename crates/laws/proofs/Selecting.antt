@@ -13,7 +13,6 @@ use Rattle.model.specs.Sorts.{Dependency, Meets, Sort, admitted}
 use Rattle.model.specs.Tables.{Lawful, Rules}
 use Rattle.model.specs.TreeForm.{Formed}
 use Rattle.model.specs.Values.{Relation, Tuple, filter, _∈_}
-use Rattle.laws.specs.Examples.{a, d}
 use Rattle.laws.proofs.Cells.{admitted-each, each-admitted}
 use Rattle.laws.proofs.Members.{bool-cases, clash, in-append-left, in-append-right, in-filter, in-map, not-false, not-true, of-append, of-filter, of-map}
 use Rattle.laws.proofs.Merging.{Merged, kept-over, meets-merged, offered}

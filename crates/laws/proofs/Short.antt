@@ -12,7 +12,6 @@ use Rattle.model.specs.Joining.{matches, paired, pairs}
 use Rattle.model.specs.Orders.{Ascending, Below, Below-first, Order, Total, compare-tuples, relation-of, then-by}
 use Rattle.model.specs.Sorts.{Agree, Column, Part, Shaped}
 use Rattle.model.specs.Values.{Relation, Tuple, find, _∈_}
-use Rattle.laws.specs.Examples.{a, b, c}
 use Rattle.laws.proofs.Orders.{ascending-relation, below-all, eq≢lt, gt≢lt, in-relation, of-relation, same-members}
 
 module _ (o : Order) (O : Total o) where

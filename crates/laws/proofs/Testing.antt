@@ -12,7 +12,6 @@ use Rattle.model.specs.Sorts.{Dependency}
 use Rattle.model.specs.TreeForm.{Leads, Right-once, arrange, arranged, front, in-order, lead-first, leads-off, more, one, right-once, sets}
 use Rattle.model.specs.Values.{any, every, tail, _∈_}
 use Rattle.laws.specs.Closures.{Tree-test}
-use Rattle.laws.specs.Examples.{a, b, c, d}
 use Rattle.laws.proofs.Cells.{apart-is, is-apart, is-same-set, or-cases, same-is}
 use Rattle.laws.proofs.Members.{and-left, and-right, bool-cases, clash, in-any, not-false, not-true, of-any}
 use Rattle.laws.proofs.Turns.{Head-leads, head-leads, in-order-has, leads-off-is, of-arrange, of-lead, same-trans}

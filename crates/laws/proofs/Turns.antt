@@ -10,7 +10,6 @@ use Rattle.model.specs.ColumnSets.{Apart, ColumnSet, Same, same}
 use Rattle.model.specs.Sorts.{Dependency}
 use Rattle.model.specs.TreeForm.{Leads, Right-once, Tree-form, after-first, arrange, front, in-order, lead-first, leads-off, more, one, sets}
 use Rattle.model.specs.Values.{tail, _∈_}
-use Rattle.laws.specs.Examples.{a, b, c, d}
 use Rattle.laws.proofs.Cells.{is-same-set, same-is, same-sym}
 use Rattle.laws.proofs.Members.{and-left, and-right, clash, not-true}
 

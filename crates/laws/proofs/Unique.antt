@@ -10,7 +10,6 @@ use Rattle.model.specs.Revision.{Revised, revise, revise-by}
 use Rattle.model.specs.Sorts.{Agree, Dependency, Meets-deps, Shaped, Sort, agrees}
 use Rattle.model.specs.TreeForm.{Formed, in-order}
 use Rattle.model.specs.Values.{Relation, Tuple, any, cell, find, _∈_}
-use Rattle.laws.specs.Examples.{a, b, d}
 use Rattle.laws.specs.Revision.{Revision-unique}
 use Rattle.laws.proofs.Cells.{agree-sym, agree-trans, agrees-is, is-agrees, tuple-ext}
 use Rattle.laws.proofs.Members.{Found, bool-cases, clash, found, hit, in-any, miss, of-any}

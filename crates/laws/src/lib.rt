@@ -3,7 +3,7 @@
 ghost use Rattle.laws.specs.Closures.{Armstrong-sound, Closure-derives, Closure-is-least, Tree-test};
 ghost use Rattle.laws.specs.Conditions.{Part-equal, Parts-whole};
 ghost use Rattle.laws.specs.Examples.{Examples, One-view-shown, Views-shown};
-ghost use Rattle.laws.specs.Faults.{Faults-exact, Judge-due, Show-exact};
+ghost use Rattle.laws.specs.Faults.{Faults-exact, Faults-pass-up, Judge-due, Show-exact};
 ghost use Rattle.laws.specs.Layers.{Drop-lawful, Join-lawful, Rename-lawful, Select-lawful, Stored-lawful};
 ghost use Rattle.laws.specs.Orders.{By-bytes-total, Equality-test, Relation-exact, Relation-same, Relation-unique, Tuples-total};
 ghost use Rattle.laws.specs.Promise.{Empty-begins, Every-point, Promise-kept, Recording};
@@ -110,9 +110,9 @@ pub fn views_stand() -> u8
     0
 }
 
-/// The fault judged is the one that is due, and none is where rows and rooms are right.
+/// The fault judged is the one that is due, none is where rows and rooms are right, and a fault below passes up.
 pub fn faults_stand() -> u8
-    ensures { λ _. ⌜ Faults-exact × Judge-due × Show-exact ⌝ }
+    ensures { λ _. ⌜ Faults-exact × Judge-due × Show-exact × Faults-pass-up ⌝ }
 {
     0
 }
