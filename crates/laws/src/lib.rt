@@ -1,7 +1,7 @@
 //! The laws of relational lenses. Each function ensures a theorem of the subject's definitions (crate `model`), for every
 //! total order of values.
 ghost use Rattle.laws.specs.Closures.{Armstrong-sound, Closure-derives, Closure-is-least, Tree-test};
-ghost use Rattle.laws.specs.Conditions.{Part-equal, Parts-whole};
+ghost use Rattle.laws.specs.Conditions.{Comparisons-exact, Part-equal, Parts-whole, Pick-exact, Reads-exact};
 ghost use Rattle.laws.specs.Examples.{Examples, One-view-shown, Views-shown};
 ghost use Rattle.laws.specs.Faults.{Faults-exact, Faults-pass-up, Judge-due, Show-exact};
 ghost use Rattle.laws.specs.Layers.{Drop-lawful, Join-lawful, Rename-lawful, Select-lawful, Stored-lawful};
@@ -54,9 +54,9 @@ pub fn tree_form_stands() -> u8
     0
 }
 
-/// A condition's parts admit what it admits, and a part is known by what it reads and admits.
+/// A written condition compares by the order, reads what it names and is its parts together; a pick admits what is picked.
 pub fn conditions_stand() -> u8
-    ensures { λ _. ⌜ Parts-whole × Part-equal ⌝ }
+    ensures { λ _. ⌜ Comparisons-exact × Reads-exact × Parts-whole × Pick-exact × Part-equal ⌝ }
 {
     0
 }
