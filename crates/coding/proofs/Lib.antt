@@ -1,1 +1,4 @@
 pub mod Groups
+pub mod Fields
+pub mod Rows
+pub mod Whole

@@ -7,3 +7,5 @@ pub mod Conditions
 pub mod Faults
 pub mod Views
 pub mod Promise
+pub mod Examples
+pub mod Puts

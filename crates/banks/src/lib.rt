@@ -1,0 +1,4 @@
+//! Banks: relations as bytes.
+mod cursor;
+mod numbers;
+mod writing;
