@@ -58,7 +58,7 @@ fine-shaped k S before row (t ∷ R) e =
     and-from (shaped (S .columns) t) (every (shaped (S .columns)) R) (row-passes k S before row t (w .0) .0) (fine-shaped k S (Some t) (suc row) R (w .1))
 
 -- the faults of rows have the table's kind
-or-either : (x y : Option Fault) (f : Fault) → or-then x y ≡ Some f → (x ≡ Some f) ⊎ (y ≡ Some f)
+pub or-either : (x y : Option Fault) (f : Fault) → or-then x y ≡ Some f → (x ≡ Some f) ⊎ (y ≡ Some f)
 or-either None y f e = inr e
 or-either (Some g) y f e = inl e
 
