@@ -1,0 +1,77 @@
+//! Rows that break a dependency with an earlier one.
+ghost use mathlib.Core.Path.{_≡_};
+ghost use mathlib.Core.Bool.{_&&_, not};
+ghost use mathlib.Core.List.{[]};
+ghost use Prim.Native.Nat.{ℕ};
+ghost use lib.ListN.{getD};
+ghost use Rattle.model.specs.Faults.{fault};
+ghost use Rattle.model.specs.Judging.{breaks, dep-fault};
+ghost use Rattle.model.specs.Sorts.{agrees};
+ghost use Rattle.model.specs.Values.{any};
+ghost use Rattle.cells.specs.Held.{tuple, tuples};
+ghost use Rattle.columns.specs.Members.{dependencies, dependency, members};
+ghost use Rattle.std.specs.Of.Vec.{vec-items};
+ghost use Rattle.std.specs.Options.{Cases as BySome};
+ghost use Rattle.std.specs.declared.option.Option.the-variants.{None};
+use cells::Cell;
+use cells::Row;
+use columns::ColumnSet;
+use columns::Dependency;
+
+// The cell at a place, and another where the row ends before it.
+fn cell_at<'a>(row: &'a Row, place: usize, absent: &'a Cell) -> &'a Cell
+    ensures { λ r. ⌜ now r ≡ getD (vec-items (now (row .entry) .cells)) place (now (absent .entry)) ⌝ }
+{
+    match row.cells.get(place) {
+        Some(cell) => cell,
+        None => absent,
+    }
+}
+
+// Whether two rows hold equal cells at the columns of the set.
+fn agree(set: &ColumnSet, s: &Row, t: &Row) -> bool
+    ensures { λ r. ⌜ r ≡ agrees (members (now (set .entry))) (tuple (now (s .entry))) (tuple (now (t .entry))) ⌝ }
+{
+    let absent = Cell::Num(0);
+    for i in 0..8 {
+        if set.has(i) && !cell_at(s, i, &absent).is_same(cell_at(t, i, &absent)) {
+            return false;
+        }
+    }
+    true
+}
+
+// Whether the row breaks the dependency with one of the earlier rows.
+fn breaks_one(d: &Dependency, earlier: &[Row], row: &Row) -> bool
+    ensures { λ r. ⌜ r ≡ any (λ s. agrees (dependency (now (d .entry)) .left) s (tuple (now (row .entry))) && not (agrees (dependency (now (d .entry)) .right) s (tuple (now (row .entry))))) (tuples (now (earlier .entry))) ⌝ }
+{
+    for s in earlier {
+        if agree(&d.left, s, row) && !agree(&d.right, s, row) {
+            return true;
+        }
+    }
+    false
+}
+
+fn breaks_some(deps: &[Dependency], earlier: &[Row], row: &Row) -> bool
+    ensures { λ r. ⌜ r ≡ breaks (dependencies (now (deps .entry))) (tuples (now (earlier .entry))) (tuple (now (row .entry))) ⌝ }
+{
+    for d in deps {
+        if breaks_one(d, earlier, row) {
+            return true;
+        }
+    }
+    false
+}
+
+// The first row that breaks a dependency with an earlier one.
+pub fn first_break(deps: &[Dependency], rows: &[Row]) -> Option<usize>
+    ensures { λ r. ⌜ BySome r ((k : ℕ) → dep-fault k (dependencies (now (deps .entry))) [] 0 (tuples (now (rows .entry))) ≡ None) (λ p. (k : ℕ) → dep-fault k (dependencies (now (deps .entry))) [] 0 (tuples (now (rows .entry))) ≡ fault 20 k p) ⌝ }
+{
+    for i in 0..rows.len() {
+        if breaks_some(deps, &rows[0..i], &rows[i]) {
+            return Some(i);
+        }
+    }
+    None
+}
