@@ -11,11 +11,11 @@ use Rattle.std.specs.declared.vec.Vec.{Vec}
 use Rattle.std.specs.declared.result.Result.{Result}
 use Rattle.std.specs.declared.result.Result.the-variants.{Ok, Err}
 use Rattle.model.specs.Sorts.{Column}
-use Rattle.model.specs.Banks.{Read, found, bad, kind-byte}
+use Rattle.model.specs.Banks.{Read, found, bad, kind-byte, Reading, accepted, refused}
 use Rattle.model.specs.Values.{Tuple, Relation}
 use Rattle.cells.specs.Held.{tuple, tuples}
 use Rattle.cells.specs.declared.rows.Row.{Row}
-use Rattle.cells.specs.Numbered.{number}
+use Rattle.cells.specs.Numbered.{number, told}
 use Rattle.cells.specs.declared.faults.Refusal.{Refusal}
 use Rattle.cells.specs.declared.faults.Refusal.the-variants as refusal
 use Rattle.banks.specs.declared.cursor.Cursor.{Cursor}
@@ -45,3 +45,9 @@ Refuses kind o refusal.Memory = Unit {0}
 abbrev pub Reads : {A B : Type 0} → (A → B) → (size kind : ℕ) → Cursor → Read B → Result A Refusal → Type 0
 Reads f size kind after o (Ok a) = (o ≡ found (f a) (left after)) × (after .size ≡ size) × (after .kind ≡ kind)
 Reads f size kind after o (Err e) = Refuses kind o e
+
+-- A bank is read as `o` says.
+abbrev pub Answers-bank : Reading → Result (Vec Row Global) Refusal → Type 0
+Answers-bank o (Ok rows) = o ≡ accepted (held rows)
+Answers-bank o (Err (refusal.Fault e)) = o ≡ refused (told e)
+Answers-bank o (Err refusal.Memory) = Unit {0}

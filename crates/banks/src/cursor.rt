@@ -5,7 +5,7 @@ ghost use mathlib.Core.List.{[], _∷_, map};
 ghost use Prim.Native.Nat.{ℕ};
 ghost use lib.Dec.{eqb};
 ghost use lib.ListN.{length};
-ghost use Rattle.model.specs.Banks.{header, kind-byte, place-in, read-cell, read-cells, read-count, read-header, read-number, read-row, read-rows};
+ghost use Rattle.model.specs.Banks.{header, kind-byte, place-in, read-cell, read-cells, read-count, read-fields, read-header, read-number, read-row, read-rows};
 ghost use Rattle.model.specs.Judging.{above};
 ghost use Rattle.model.specs.Orders.{by-bytes};
 ghost use Rattle.model.specs.Sorts.{texts};
@@ -187,7 +187,13 @@ impl<'a> Cursor<'a> {
         Ok(n)
     }
     // A row that is judged: it is to be above the one before, and admitted.
-    fn judged_row(&mut self, heap: Global, sort: SortView<'_>, before: Option<&Row>, index: usize) -> Result<Row, Refusal>
+    fn judged_row(
+        &mut self,
+        heap: Global,
+        sort: SortView<'_>,
+        before: Option<&Row>,
+        index: usize,
+    ) -> Result<Row, Refusal>
         ensures { λ r. ⌜ Reads tuple (now (self .entry) .size) (now (self .entry) .kind) (now (self .exit)) (read-row (now (self .entry) .size) (viewed (sort .entry)) (row-before (before .entry)) index (left (now (self .entry)))) r ⌝ }
     {
         let row = self.row(heap, sort.columns)?;
@@ -201,13 +207,35 @@ impl<'a> Cursor<'a> {
     }
 
     // So many rows.
-    pub(crate) fn rows(&mut self, heap: Global, sort: SortView<'_>, count: usize) -> Result<Vec<Row>, Refusal>
+    pub(crate) fn rows(
+        &mut self,
+        heap: Global,
+        sort: SortView<'_>,
+        count: usize,
+    ) -> Result<Vec<Row>, Refusal>
         ensures { λ r. ⌜ Reads held (now (self .entry) .size) (now (self .entry) .kind) (now (self .exit)) (read-rows (now (self .entry) .size) (viewed (sort .entry)) None 0 count (left (now (self .entry)))) r ⌝ }
     {
         let mut rows = Vec::new(heap);
         for i in 0..count {
             let row = self.judged_row(heap, sort, rows.last(), i)?;
             rows.push(row)?;
+        }
+        Ok(rows)
+    }
+    // The fields of a bank, to its end.
+    pub(crate) fn fields(
+        &mut self,
+        heap: Global,
+        sort: SortView<'_>,
+        room: usize,
+    ) -> Result<Vec<Row>, Refusal>
+        ensures { λ r. ⌜ Reads held (now (self .entry) .size) (now (self .entry) .kind) (now (self .exit)) (read-fields (now (self .entry) .size) (viewed (sort .entry)) room (left (now (self .entry)))) r ⌝ }
+    {
+        self.header(sort.columns)?;
+        let count = self.count(room)?;
+        let rows = self.rows(heap, sort, count)?;
+        if !self.rest.is_empty() {
+            return Err(self.bad(Cause::BadBytes));
         }
         Ok(rows)
     }

@@ -2,8 +2,10 @@
 mod breaking;
 mod cursor;
 mod numbers;
+mod reading;
 mod view;
 mod writing;
 
 pub use breaking::first_break;
+pub use reading::read_bank;
 pub use view::SortView;
