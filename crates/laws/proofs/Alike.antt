@@ -10,7 +10,7 @@ use Rattle.std.specs.declared.option.Option.the-variants.{Some, None}
 use Rattle.model.specs.ColumnSets.{has}
 use Rattle.model.specs.Decisions.{shaped}
 use Rattle.model.specs.Dropping.{May-drop, add-at, drop, drop-deps, drop-part, drop-parts, drop-put, fill, without}
-use Rattle.model.specs.Faults.{Fault, fault, or-then}
+use Rattle.model.specs.Faults.{fault, or-then}
 use Rattle.model.specs.Joining.{May-join, join, join-columns, join-deps, join-left, join-right, join-show, left-stores, merge, project-rows, right-stores, strays}
 use Rattle.model.specs.Judging.{above, dep-fault, judge, rows-fault, sort-fault, stores-fault}
 use Rattle.model.specs.Orders.{Order, Total, relation-of}
@@ -31,7 +31,7 @@ use Rattle.laws.proofs.Meeting.{shaped-is}
 use Rattle.laws.proofs.Members.{of-append, of-filter, of-map}
 use Rattle.laws.proofs.Orders.{of-relation}
 use Rattle.laws.proofs.Piling.{piles-lawful}
-use Rattle.laws.proofs.Refusing.{sort-none}
+use Rattle.laws.proofs.Refusing.{or-then-cong, sort-none}
 use Rattle.laws.proofs.Renamed.{shaped-down}
 use Rattle.laws.proofs.Revising.{All-shaped, shaped-by}
 
@@ -63,10 +63,6 @@ filter-cong p q (a ∷ l) f = ap₂ (λ b m. cond b (a ∷ m) m) (f a (inl refl)
 cond-cong : {A : Type 0} (b : Bool) (x y z : A) → (b ≡ true → x ≡ y) → cond b x z ≡ cond b y z
 cond-cong true x y z f = f refl
 cond-cong false x y z f = refl
-
-or-then-cong : (x y z : Option Fault) → (x ≡ None → y ≡ z) → or-then x y ≡ or-then x z
-or-then-cong None y z f = f refl
-or-then-cong (Some g) y z f = refl
 
 -- a join's rules look at columns and dependencies alone
 bare : List Column → List Dependency → Sort

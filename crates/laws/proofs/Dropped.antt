@@ -21,7 +21,7 @@ use Rattle.laws.proofs.Orders.{ascending-relation, in-relation, length-relatio
 use Rattle.laws.proofs.Turns.{in-sets-left, in-sets-right, leads-into, same-refl, same-trans}
 
 -- places before and after the column is gone
-skip : ℕ → ℕ → ℕ
+pub skip : ℕ → ℕ → ℕ
 skip zero i = suc i
 skip (suc k) zero = zero
 skip (suc k) (suc i) = suc (skip k i)
@@ -54,7 +54,7 @@ cell-put zero v t = refl
 cell-put (suc k) v [] = cell-put k v []
 cell-put (suc k) v (w ∷ t) = cell-put k v t
 
-cell-put-skip : (k : ℕ) (v : Value) (t : Tuple) (i : ℕ) → cell (add-at k v t) (skip k i) ≡ cell t i
+pub cell-put-skip : (k : ℕ) (v : Value) (t : Tuple) (i : ℕ) → cell (add-at k v t) (skip k i) ≡ cell t i
 unfolding skip
 cell-put-skip zero v t i = refl
 cell-put-skip (suc k) v [] zero = refl
@@ -100,7 +100,7 @@ without-put zero (b ∷ C) t c v e s = refl
 without-put (suc k) (b ∷ C) [] c v e s = absurd s
 without-put (suc k) (b ∷ C) (w ∷ t) c v e s = ap {B = Tuple} (λ l. w ∷ l) (without-put k C t c v e (s .1))
 
-put-without : (k : ℕ) (C : List Column) (t : Tuple) (c : Column) → column-at C k ≡ Some c → Shaped C t → add-at k (cell t k) (without k t) ≡ t
+pub put-without : (k : ℕ) (C : List Column) (t : Tuple) (c : Column) → column-at C k ≡ Some c → Shaped C t → add-at k (cell t k) (without k t) ≡ t
 put-without k [] t c e s = absurd (not-none c e)
 put-without k (b ∷ C) [] c e s = absurd s
 put-without zero (b ∷ C) (v ∷ t) c e s = refl
@@ -111,7 +111,7 @@ agree-down : (k : ℕ) (X : ColumnSet) (s t : Tuple) → Agree X s t → Agree (
 agree-down k X s t a i h = cell-without k s i ∙ a (skip k i) (sym (has-without k X i) ∙ h) ∙ sym (cell-without k t i)
 
 -- rows that agree off place k, each with cells at the other places as s and t have them
-agree-off : (k : ℕ) (X : ColumnSet) (s t s′ t′ : Tuple) → has X k ≡ false → ((i : ℕ) → cell s′ (skip k i) ≡ cell s i) → ((i : ℕ) → cell t′ (skip k i) ≡ cell t i) → Agree (without k X) s t → Agree X s′ t′
+pub agree-off : (k : ℕ) (X : ColumnSet) (s t s′ t′ : Tuple) → has X k ≡ false → ((i : ℕ) → cell s′ (skip k i) ≡ cell s i) → ((i : ℕ) → cell t′ (skip k i) ≡ cell t i) → Agree (without k X) s t → Agree X s′ t′
 agree-off k X s t s′ t′ n p q a j h = elim (skip-cases k j) [
   | inl e ↦ clash (has X j) h (ap (has X) e ∙ n)
   | inr w ↦ ap (cell s′) (w .1) ∙ p (w .0) ∙ a (w .0) (has-without k X (w .0) ∙ ap (has X) (sym (w .1)) ∙ h) ∙ sym (q (w .0)) ∙ ap (cell t′) (sym (w .1))
@@ -120,7 +120,7 @@ agree-off k X s t s′ t′ n p q a j h = elim (skip-cases k j) [
 agree-on : (k : ℕ) (X : ColumnSet) (s t s′ t′ : Tuple) → ((i : ℕ) → cell s′ (skip k i) ≡ cell s i) → ((i : ℕ) → cell t′ (skip k i) ≡ cell t i) → Agree X s′ t′ → Agree (without k X) s t
 agree-on k X s t s′ t′ p q a i h = sym (p i) ∙ a (skip k i) (sym (has-without k X i) ∙ h) ∙ q i
 
-agree-refl : (X : ColumnSet) (s : Tuple) → Agree X s s
+pub agree-refl : (X : ColumnSet) (s : Tuple) → Agree X s s
 agree-refl X s i h = refl
 
 -- sets
@@ -337,16 +337,16 @@ module _ (o : Order) (O : Total o) where
     abbrev at-k : column-at (S .columns) k ≡ Some (Y .column .0)
     at-k = Y .column .1
 
-    the-dep : (f : Dependency) × (f ∈ D) × (has (f .right) k ≡ true) × (X ≡ f .left)
+    pub the-dep : (f : Dependency) × (f ∈ D) × (has (f .right) k ≡ true) × (X ≡ f .left)
     the-dep = determining-is k D (Y .in-right .0) (Y .in-right .1) (Y .in-right .2)
 
-    determining-of : (e : Dependency) → e ∈ D → has (e .right) k ≡ true → X ≡ e .left
+    pub determining-of : (e : Dependency) → e ∈ D → has (e .right) k ≡ true → X ≡ e .left
     determining-of e h g =
         let w = the-dep in
         let s : Same (w .0 .right) (e .right) = elim (F .tree .equal-or-apart (w .0 .right) (e .right) (in-sets-right D (w .0) (w .1)) (in-sets-right D e h)) [ inl s ↦ s | inr p ↦ absurd (p k (w .2) g) ] in
         w .3 ∙ ap (λ x. x .left) (one-right D (F .tree .right-once) (w .0) e (w .1) h s)
 
-    off-X : has X k ≡ false
+    pub off-X : has X k ≡ false
     off-X = let w = the-dep in ap (λ x. has x k) (w .3) ∙ Y .in-no-left (w .0) (w .1)
 
     without-cells : (t : Tuple) (i : ℕ) → cell t (skip k i) ≡ cell (without k t) i
@@ -379,7 +379,7 @@ module _ (o : Order) (O : Total o) where
 
     module _ (I : Relation) (MI : Meets o S I) where
       -- the cell put in
-      abbrev new : Tuple → Value
+      abbrev pub new : Tuple → Value
       new t = cell-or k a (find (agrees X (add-at k a t)) I)
 
       new-kind-at : (p : Tuple → Bool) (out : Option Tuple) → Found p I out → Of-kind (Y .column .0 .kind) (cell-or k a out)
@@ -443,7 +443,7 @@ module _ (o : Order) (O : Total o) where
               (subst (λ x. Agree (e .left) (fill k a D I (v .0)) x → Agree (e .right) (fill k a D I (v .0)) x) (sym (w .2)) (filled-deps e g (v .0) (w .0) (v .1) (w .1)));
         }
 
-        emptied : (s : Tuple) → s ∈ J → without k (fill k a D I s) ≡ s
+        pub emptied : (s : Tuple) → s ∈ J → without k (fill k a D I s) ≡ s
         emptied s h = without-put k (S .columns) s (Y .column .0) (new s) at-k (MJ .shaped s h)
 
         pub drop-put-shows : relation-of o (map (without k) (drop-put o k a D J I)) ≡ J

@@ -111,7 +111,7 @@ module _ (o : Order) (O : Total o) where
     project-left : (u v : Tuple) → Shaped U u → project C U (combine U V u v) ≡ u
     project-left u v s = map-cong (λ c. value-of C (combine U V u v) (c .word)) (λ c. value-of U u (c .word)) U (λ c h. at-left U (others U V) u (project V (others U V) v) (c .word) s (is-column U c h)) ∙ project-self U u (FS .words) s
 
-    on-shared : (u v : Tuple) → matches U V u v ≡ true → (c : Column) → c ∈ shared U V → value-of U u (c .word) ≡ value-of V v (c .word)
+    pub on-shared : (u v : Tuple) → matches U V u v ≡ true → (c : Column) → c ∈ shared U V → value-of U u (c .word) ≡ value-of V v (c .word)
     on-shared u v m c h = map-at (λ c. value-of U u (c .word)) (λ c. value-of V v (c .word)) (shared U V) (tuple-is (project U (shared U V) u) (project V (shared U V) v) m) c h
 
     project-right-at : (u v : Tuple) → Shaped U u → matches U V u v ≡ true → (c : Column) → c ∈ V → value-of C (combine U V u v) (c .word) ≡ value-of V v (c .word)
@@ -151,7 +151,7 @@ module _ (o : Order) (O : Total o) where
     of-paired u M N out (hit v h e) t (inr g) = inr g
     of-paired u M N out (miss f) t h = inr h
 
-    of-pairs : (M N : Relation) (t : Tuple) → t ∈ pairs U V M N → (u : Tuple) × (v : Tuple) × (u ∈ M) × (v ∈ N) × (matches U V u v ≡ true) × (t ≡ combine U V u v)
+    pub of-pairs : (M N : Relation) (t : Tuple) → t ∈ pairs U V M N → (u : Tuple) × (v : Tuple) × (u ∈ M) × (v ∈ N) × (matches U V u v ≡ true) × (t ≡ combine U V u v)
     of-pairs [] N t h = absurd h
     of-pairs (u ∷ M) N t h = elim (of-paired u M N (find (matches U V u) N) (found (matches U V u) N) t h) [
       | inl w ↦ (u, w .0, inl refl, w .1, w .2, w .3)
@@ -166,7 +166,7 @@ module _ (o : Order) (O : Total o) where
     past-paired u None l t h = h
     past-paired u (Some v) l t h = inr h
 
-    in-pairs : (M N : Relation) → Meets o T N → (u v : Tuple) → u ∈ M → v ∈ N → matches U V u v ≡ true → combine U V u v ∈ pairs U V M N
+    pub in-pairs : (M N : Relation) → Meets o T N → (u v : Tuple) → u ∈ M → v ∈ N → matches U V u v ≡ true → combine U V u v ∈ pairs U V M N
     in-pairs [] N MN u v hu hv m = absurd hu
     in-pairs (x ∷ M) N MN u v (inl p) hv m = subst (λ y. combine U V y v ∈ pairs U V (x ∷ M) N) (sym p) (in-paired x M N (find (matches U V x) N) (found (matches U V x) N) MN v hv (subst (λ y. matches U V y v ≡ true) p m))
     in-pairs (x ∷ M) N MN u v (inr h) hv m = past-paired x (find (matches U V x) N) (pairs U V M N) (combine U V u v) (in-pairs M N MN u v h hv m)
@@ -229,12 +229,12 @@ module _ (o : Order) (O : Total o) where
       abbrev JV : Relation
       JV = project-rows o C V J
 
-      meets-left : Meets o S JU
+      pub meets-left : Meets o S JU
       meets-left = project-meets C U distinct-all S (join-sort S T) refl J (λ t h. shape-left t (MJ .shaped t h))
           (λ p g. in-append-left (lift-part C U p) (map (lift-part C U) (S .parts)) (map (lift-part C V) (T .parts)) (in-map (lift-part C U) p (S .parts) g))
           (λ d g. MJ .deps (lift-dep C U d) (in-append-left (lift-dep C U d) (map (lift-dep C U) (S .deps)) _ (in-map (lift-dep C U) d (S .deps) g))) MJ
 
-      meets-right : Meets o T JV
+      pub meets-right : Meets o T JV
       meets-right = project-meets C V distinct-all T (join-sort S T) refl J (λ t h. shape-right t (MJ .shaped t h))
           (λ p g. in-append-right (lift-part C V p) (map (lift-part C U) (S .parts)) (map (lift-part C V) (T .parts)) (in-map (lift-part C V) p (T .parts) g))
           (λ d g. united-right (map (lift-dep C U) (S .deps)) (map (lift-dep C V) (T .deps)) J (MJ .deps) (lift-dep C V d) (in-map (lift-dep C V) d (T .deps) g)) MJ
@@ -380,19 +380,19 @@ module _ (o : Order) (O : Total o) where
   stored-append (a ∷ A) B [] Z s r = absurd s
   stored-append (a ∷ A) B (R ∷ X) Z s r = (s .0, stored-append A B X Z (s .1) r)
 
-  before-append : (A : List Store) (X Z : List Relation) → Stored o A X → left-stores A (X ++ Z) ≡ X
+  pub before-append : (A : List Store) (X Z : List Relation) → Stored o A X → left-stores A (X ++ Z) ≡ X
   before-append [] [] Z s = refl
   before-append [] (R ∷ X) Z s = absurd s
   before-append (a ∷ A) [] Z s = absurd s
   before-append (a ∷ A) (R ∷ X) Z s = ap {B = List Relation} (λ l. R ∷ l) (before-append A X Z (s .1))
 
-  after-append : (A : List Store) (X Z : List Relation) → Stored o A X → right-stores A (X ++ Z) ≡ Z
+  pub after-append : (A : List Store) (X Z : List Relation) → Stored o A X → right-stores A (X ++ Z) ≡ Z
   after-append [] [] Z s = refl
   after-append [] (R ∷ X) Z s = absurd s
   after-append (a ∷ A) [] Z s = absurd s
   after-append (a ∷ A) (R ∷ X) Z s = after-append A X Z (s .1)
 
-  before-after : (A B : List Store) (I : List Relation) → Stored o (A ++ B) I → left-stores A I ++ right-stores A I ≡ I
+  pub before-after : (A B : List Store) (I : List Relation) → Stored o (A ++ B) I → left-stores A I ++ right-stores A I ≡ I
   before-after [] B I s = refl
   before-after (a ∷ A) B [] s = absurd s
   before-after (a ∷ A) B (R ∷ I) s = ap {B = List Relation} (λ l. R ∷ l) (before-after A B I (s .1))

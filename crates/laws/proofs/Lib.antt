@@ -25,3 +25,5 @@ pub mod Keeping
 pub mod Promising
 pub mod Calling
 pub mod Shown
+pub mod Exactly
+pub mod Passing

@@ -46,6 +46,10 @@ none-test : (b : Bool) (out : Option Fault) (n k p : ℕ) → b ≡ true → out
 none-test true out n k p e g = g
 none-test false out n k p e g = absurd (false≢true e)
 
+pub or-then-cong : (x y z : Option Fault) → (x ≡ None → y ≡ z) → or-then x y ≡ or-then x z
+or-then-cong None y z f = f refl
+or-then-cong (Some g) y z f = refl
+
 module _ (o : Order) where
   -- by row
   abbrev pub Above : Option Tuple → Relation → Type 0

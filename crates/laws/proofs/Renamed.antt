@@ -7,7 +7,7 @@ use mathlib.Core.Bool.{true}
 use Rattle.model.specs.ColumnSets.{ColumnSet, Within}
 use Rattle.model.specs.Orders.{Order}
 use Rattle.model.specs.Renaming.{Unused, rename, rename-at, rename-sort}
-use Rattle.model.specs.Sorts.{Column, Distinct, Meets, Shaped, all-columns}
+use Rattle.model.specs.Sorts.{Column, Distinct, Meets, Shaped, Sort, all-columns}
 use Rattle.model.specs.Tables.{Lawful, Rules}
 use Rattle.model.specs.Values.{Relation, Tuple, _∈_}
 
@@ -44,6 +44,10 @@ all-same zero w (c ∷ C) = refl
 all-same (suc k) w (c ∷ C) = ap {B = ColumnSet} (λ l. true ∷ l) (all-same k w C)
 
 module _ (o : Order) where
+  -- what meets the renamed sort meets the sort below
+  pub renamed-meets : (k : ℕ) (w : List ℕ) (S : Sort) (R : Relation) → Meets o (rename-sort k w S) R → Meets o S R
+  renamed-meets k w S R M = record { ascending = M .ascending; shaped = λ t h. shaped-down k w (S .columns) t (M .shaped t h); admits = M .admits; deps = M .deps }
+
   pub rename-lawful : (k : ℕ) (w : List ℕ) (K : Rules) → Unused w (K .sort) → Lawful o K → Lawful o (rename k w K)
   rename-lawful k w K U L =
       let S = K .sort in

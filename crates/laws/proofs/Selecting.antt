@@ -32,7 +32,7 @@ module _ (o : Order) (O : Total o) where
       deps = λ d h s t hs ht. M .deps d h s t (of-filter (admitted (P .parts)) s I hs .0) (of-filter (admitted (P .parts)) t I ht .0);
     }
 
-    lower : (J : Relation) → Meets o (select-sort P S) J → Meets o S J
+    pub lower : (J : Relation) → Meets o (select-sort P S) J → Meets o S J
     lower J M = record { ascending = M .ascending; shaped = M .shaped; admits = λ p h. M .admits p (in-append-right p (P .parts) (S .parts) h); deps = M .deps }
 
     all-admitted : (J : Relation) → Meets o (select-sort P S) J → (t : Tuple) → t ∈ J → admitted (P .parts) t ≡ true
@@ -53,11 +53,11 @@ module _ (o : Order) (O : Total o) where
             subst (Merged o O S F I J MI (lower J MJ)) (sym (w .2)) (kept-over (w .0) (of-filter (hidden P) (w .0) I (w .1) .0))
       ]
 
-      pub put-meets : Meets o S (select-put o P D J I)
-      put-meets = meets-merged o O S F I J MI (lower J MJ) N (J ++ others) put-rows
+      pub select-put-meets : Meets o S (select-put o P D J I)
+      select-put-meets = meets-merged o O S F I J MI (lower J MJ) N (J ++ others) put-rows
 
-      pub put-shows : filter (admitted (P .parts)) (select-put o P D J I) ≡ J
-      put-shows = same-members o O (filter (admitted (P .parts)) (select-put o P D J I)) J (ascending-filter o O (admitted (P .parts)) (select-put o P D J I) (ascending-relation o O (J ++ others))) (MJ .ascending)
+      pub select-put-shows : filter (admitted (P .parts)) (select-put o P D J I) ≡ J
+      select-put-shows = same-members o O (filter (admitted (P .parts)) (select-put o P D J I)) J (ascending-filter o O (admitted (P .parts)) (select-put o P D J I) (ascending-relation o O (J ++ others))) (MJ .ascending)
           (λ t h. let k = of-filter (admitted (P .parts)) t (select-put o P D J I) h in elim (of-append t J others (of-relation o O (J ++ others) t (k .0))) [
             | inl g ↦ g
             | inr g ↦ clash (admitted (P .parts) t) (k .1) (not-true (admitted (P .parts) t) (of-filter (hidden P) t (map (revise D J) (filter (hidden P) I)) g .1))
@@ -103,9 +103,9 @@ module _ (o : Order) (O : Total o) where
       record {
         formed = record { words = F .words; sets-some = F .sets-some; sets-within = F .sets-within; sets-apart = F .sets-apart; tree = F .tree };
         shown-meets = λ I s. shown-meets P S F N (K .shows I) (L .shown-meets I s);
-        put-meets = λ J I s M. L .put-meets (select-put o P (S .deps) J (K .shows I)) I s (put-meets P S F N (K .shows I) J (L .shown-meets I s) M);
-        put-shows = λ J I s M. ap (filter (admitted (P .parts))) (L .put-shows (select-put o P (S .deps) J (K .shows I)) I s (put-meets P S F N (K .shows I) J (L .shown-meets I s) M))
-            ∙ put-shows P S F N (K .shows I) J (L .shown-meets I s) M;
+        put-meets = λ J I s M. L .put-meets (select-put o P (S .deps) J (K .shows I)) I s (select-put-meets P S F N (K .shows I) J (L .shown-meets I s) M);
+        put-shows = λ J I s M. ap (filter (admitted (P .parts))) (L .put-shows (select-put o P (S .deps) J (K .shows I)) I s (select-put-meets P S F N (K .shows I) J (L .shown-meets I s) M))
+            ∙ select-put-shows P S F N (K .shows I) J (L .shown-meets I s) M;
         show-puts = λ I s. ap (λ R. K .puts R I) (show-puts P S F N (K .shows I) (L .shown-meets I s)) ∙ L .show-puts I s;
         no-more = λ I s. omega (arith, length-filter (admitted (P .parts)) (K .shows I), L .no-more I s);
       }

@@ -15,6 +15,7 @@ use Rattle.model.specs.TreeForm.{tree-form}
 use Rattle.model.specs.Faults.{fault}
 use Rattle.model.specs.Tables.{Store, Rules}
 use Rattle.model.specs.Judging.{judge}
+use Rattle.model.specs.Banks as banks
 use Rattle.model.specs.Conditions.{Condition, compared, bracket, both, equals, at-least, at-most, constant, pick, parts-of}
 use Rattle.model.specs.Selecting.{Predicate}
 use Rattle.model.specs.Piles.{Pile, source, selecting, dropping, renaming, joining, rules, View, One-view}
@@ -59,7 +60,7 @@ Ann = text (codes "Ann")
 abbrev pub Bo : Value
 Bo = text (codes "Bo")
 
--- the tables (title, bank) with title -> bank; (bank, author) with bank -> author; and (title, bank, author) with bank -> author
+-- the tables (title, bank) with title -> bank; (bank, author) with bank -> author; (title, bank, author) with bank -> author; and with both
 abbrev pub title : Column
 title = record { word = codes "title"; kind = texts }
 
@@ -77,6 +78,9 @@ authors = record { kind = 1; sort = record { columns = bank ∷ author ∷ []; d
 
 abbrev pub songs : Store
 songs = record { kind = 1; sort = record { columns = title ∷ bank ∷ author ∷ []; deps = from-to b c ∷ []; parts = [] }; room = 128 }
+
+abbrev pub signed : Store
+signed = record { kind = 1; sort = record { columns = title ∷ bank ∷ author ∷ []; deps = from-to a b ∷ from-to b c ∷ []; parts = [] }; room = 128 }
 
 -- the rules of a pile on tables; conditions that a column has a value, picked and written
 abbrev pub on : List Store → Pile → Rules
@@ -111,6 +115,13 @@ T₂ = titles 128 ∷ authors ∷ []
 -- Glass Pads, Grit Bass, and Pads Ann
 abbrev pub I₂ : List Relation
 I₂ = ((Glass ∷ Pads ∷ []) ∷ (Grit ∷ Bass ∷ []) ∷ []) ∷ ((Pads ∷ Ann ∷ []) ∷ []) ∷ []
+
+-- a table with a text and a num column, and the bank of Glass, 200
+abbrev pub sounds : Sort
+sounds = record { columns = title ∷ record { word = codes "size"; kind = numbers } ∷ []; deps = []; parts = [] }
+
+abbrev pub glass-bank : List ℕ
+glass-bank = 0x01 ∷ 0x02 ∷ 0x01 ∷ 0x00 ∷ 0x01 ∷ 0x05 ∷ 0x47 ∷ 0x6C ∷ 0x61 ∷ 0x73 ∷ 0x73 ∷ 0x81 ∷ 0x48 ∷ []
 
 -- a history: Grit Bass stored, then the Pads view opened and worked
 abbrev pub worked : History
@@ -148,6 +159,14 @@ pub record Examples : Type 0 where
   pub revised : on T₂ credits .puts ((Glass ∷ Pads ∷ Bo ∷ []) ∷ []) I₂ ≡ ((Glass ∷ Pads ∷ []) ∷ (Grit ∷ Bass ∷ []) ∷ []) ∷ ((Pads ∷ Bo ∷ []) ∷ []) ∷ []
   -- A joined dependency is as wide as the columns.
   pub joined-deps : on T₂ credits .sort .deps ≡ from-to (true ∷ false ∷ false ∷ []) (false ∷ true ∷ false ∷ []) ∷ from-to (false ∷ true ∷ false ∷ []) (false ∷ false ∷ true ∷ []) ∷ []
+  -- Joining (title, bank) with (title, bank, author), both with title -> bank: that dependency stands once.
+  pub united-once : on (titles 128 ∷ signed ∷ []) credits .sort .deps ≡ from-to (true ∷ false ∷ false ∷ []) (false ∷ true ∷ false ∷ []) ∷ from-to (false ∷ true ∷ false ∷ []) (false ∷ false ∷ true ∷ []) ∷ []
+  -- 128 is 81 00; 80 00 is 23
+  pub groups-of-128 : banks.groups 128 ≡ 0x81 ∷ 0x00 ∷ []
+  pub padded : banks.read-number 2 (0x80 ∷ 0x00 ∷ []) ≡ banks.bad 23 0
+  -- Glass, 200 in a text and a num column, written and read
+  pub written-bank : banks.bank (sounds .columns) ((Glass ∷ num 200 ∷ []) ∷ []) ≡ glass-bank
+  pub read-bank : banks.read-bank 1 sounds 8 glass-bank ≡ banks.accepted ((Glass ∷ num 200 ∷ []) ∷ [])
   -- Select title = Saw on Glass Pads Ann, Grit Bass Ann: putting Saw Pads Bo revises the hidden Glass Pads Ann to Glass Pads Bo.
   pub hidden-revised : on (songs ∷ []) (selecting (picked 0 Saw) (source 0)) .puts ((Saw ∷ Pads ∷ Bo ∷ []) ∷ []) (((Glass ∷ Pads ∷ Ann ∷ []) ∷ (Grit ∷ Bass ∷ Ann ∷ []) ∷ []) ∷ [])
       ≡ ((Glass ∷ Pads ∷ Bo ∷ []) ∷ (Grit ∷ Bass ∷ Ann ∷ []) ∷ (Saw ∷ Pads ∷ Bo ∷ []) ∷ []) ∷ []

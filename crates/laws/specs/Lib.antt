@@ -8,3 +8,4 @@ pub mod Faults
 pub mod Views
 pub mod Promise
 pub mod Examples
+pub mod Puts

@@ -1,12 +1,13 @@
 //! The laws of relational lenses. Each function ensures a theorem of the subject's definitions (crate `model`), for every
 //! total order of values.
 ghost use Rattle.laws.specs.Closures.{Armstrong-sound, Closure-derives, Closure-is-least, Tree-test};
-ghost use Rattle.laws.specs.Conditions.{Parts-whole};
+ghost use Rattle.laws.specs.Conditions.{Comparisons-exact, Part-equal, Parts-whole, Pick-exact, Reads-exact};
 ghost use Rattle.laws.specs.Examples.{Examples, One-view-shown, Views-shown};
-ghost use Rattle.laws.specs.Faults.{Faults-exact, Judge-due, Show-exact};
+ghost use Rattle.laws.specs.Faults.{Faults-exact, Faults-pass-up, Judge-due, Show-exact};
 ghost use Rattle.laws.specs.Layers.{Drop-lawful, Join-lawful, Rename-lawful, Select-lawful, Stored-lawful};
-ghost use Rattle.laws.specs.Orders.{By-bytes-total, Equality-test, Relation-exact, Relation-unique, Tuples-total};
+ghost use Rattle.laws.specs.Orders.{By-bytes-total, Equality-test, Relation-exact, Relation-same, Relation-unique, Tuples-total};
 ghost use Rattle.laws.specs.Promise.{Empty-begins, Every-point, Promise-kept, Recording};
+ghost use Rattle.laws.specs.Puts.{Drop-exact, Join-exact, Pairs-ascending, Select-exact};
 ghost use Rattle.laws.specs.Revision.{Revision-characterised, Revision-unique};
 ghost use Rattle.laws.specs.Sorts.{Lookup-right, Meets-test, Sets-test};
 ghost use Rattle.laws.specs.Views.{One-view-alike, One-view-equivalence, Views-stand};
@@ -20,7 +21,7 @@ pub fn orders_stand() -> u8
 
 /// The relation of some tuples is the one ascending relation with just these.
 pub fn relations_stand() -> u8
-    ensures { λ _. ⌜ Relation-exact × Relation-unique ⌝ }
+    ensures { λ _. ⌜ Relation-exact × Relation-unique × Relation-same ⌝ }
 {
     0
 }
@@ -53,9 +54,9 @@ pub fn tree_form_stands() -> u8
     0
 }
 
-/// A condition's parts admit what it admits.
+/// A written condition compares by the order, reads what it names and is its parts together; a pick admits what is picked.
 pub fn conditions_stand() -> u8
-    ensures { λ _. ⌜ Parts-whole ⌝ }
+    ensures { λ _. ⌜ Comparisons-exact × Reads-exact × Parts-whole × Pick-exact × Part-equal ⌝ }
 {
     0
 }
@@ -74,16 +75,16 @@ pub fn stored_stands() -> u8
     0
 }
 
-/// Select on a lawful table is lawful.
+/// Select on a lawful table is lawful, and a put through it leaves exactly the rows that it is said to.
 pub fn select_stands() -> u8
-    ensures { λ _. ⌜ Select-lawful ⌝ }
+    ensures { λ _. ⌜ Select-lawful × Select-exact ⌝ }
 {
     0
 }
 
-/// Drop on a lawful table is lawful.
+/// Drop on a lawful table is lawful, and a put through it leaves exactly the rows that it is said to.
 pub fn drop_stands() -> u8
-    ensures { λ _. ⌜ Drop-lawful ⌝ }
+    ensures { λ _. ⌜ Drop-lawful × Drop-exact ⌝ }
 {
     0
 }
@@ -95,9 +96,9 @@ pub fn rename_stands() -> u8
     0
 }
 
-/// Join of lawful tables is lawful.
+/// Join of lawful tables is lawful, and a put through it leaves exactly the rows that it is said to.
 pub fn join_stands() -> u8
-    ensures { λ _. ⌜ Join-lawful ⌝ }
+    ensures { λ _. ⌜ Join-lawful × Join-exact × Pairs-ascending ⌝ }
 {
     0
 }
@@ -109,9 +110,9 @@ pub fn views_stand() -> u8
     0
 }
 
-/// The fault judged is the one that is due, and none is where rows and rooms are right.
+/// The fault judged is the one that is due, none is where rows and rooms are right, and a fault below passes up.
 pub fn faults_stand() -> u8
-    ensures { λ _. ⌜ Faults-exact × Judge-due × Show-exact ⌝ }
+    ensures { λ _. ⌜ Faults-exact × Judge-due × Show-exact × Faults-pass-up ⌝ }
 {
     0
 }
