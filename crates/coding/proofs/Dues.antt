@@ -22,7 +22,6 @@ use Rattle.model.specs.Banks.{bank, coded-row, accepted, refused, read-bank}
 use Rattle.laws.proofs.Meeting.{shaped-is, is-shaped}
 use Rattle.laws.proofs.Refusing.{rows-none, none-rows, sort-none, none-sort}
 use Rattle.laws.proofs.Judging.{judge-due}
-use Rattle.coding.specs.Numbers.{are-bytes}
 use Rattle.coding.specs.Reading.{Written-reads, Sound-bank, Accepted-exactly, Banks-once, at, Begun, Due-bank, Refused-exactly}
 use Rattle.coding.specs.Reading as spec
 use Rattle.coding.proofs.Rows.{not-none, same-fault, or-none, or-either}
@@ -175,14 +174,14 @@ module _ (k : ℕ) (S : Sort) (room : ℕ) (b : List ℕ) where
   due-fault _ (spec.row-breaks R earlier later t g l r q m n) = row-breaks R (at 20 k (length earlier)) g l (right-fine k S R r) (dep-fault-of R (at 20 k (length earlier)) (right-fine k S R r) (offer.breaks-dependency earlier later t q r m n))
 
 pub refused-exactly : Refused-exactly
-refused-exactly k room S b f e h = let w = refused-fault k room S b f e h in (λ q. fault-due k S room b f (w .0 q), λ d. w .1 (due-fault k S room b f d))
+refused-exactly k room S b f h = let w = refused-fault k room S b f h in (λ q. fault-due k S room b f (w .0 q), λ d. w .1 (due-fault k S room b f d))
 
 pub written-reads : Written-reads
 written-reads k room S R h m l = sound-accepted k room S (bank (S .columns) R) R h (refl, none-sort by-bytes k S R m, l)
 
 pub accepted-exactly : Accepted-exactly
-accepted-exactly k room S b R e h =
-    let w = accepted-clean k room S b R e h in
+accepted-exactly k room S b R h =
+    let w = accepted-clean k room S b R h in
     (λ q. let c = w .0 q in (c .0, sort-none by-bytes k S R (c .1), c .2), λ s. w .1 (s .0, none-sort by-bytes k S R (s .1), s .2))
 
 pub banks-once : Banks-once

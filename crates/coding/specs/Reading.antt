@@ -13,7 +13,7 @@ use Rattle.model.specs.Decisions.{shaped}
 use Rattle.model.specs.Judging.{sort-fault}
 use Rattle.model.specs.Refusals.{Rows-right}
 use Rattle.model.specs.Banks.{groups, coded-row, coded-rows, header, bank, accepted, refused, accept-unless, read-bank}
-use Rattle.coding.specs.Numbers.{are-bytes, No-number}
+use Rattle.coding.specs.Numbers.{No-number}
 
 -- A bank of rows that have the columns' kinds is judged as a put of those rows is: refused with the fault by which they
 -- break the sort, else accepted.
@@ -29,7 +29,7 @@ abbrev pub Sound-bank : Sort → ℕ → List ℕ → Relation → Type 0
 Sound-bank S room b R = (b ≡ bank (S .columns) R) × Meets by-bytes S R × (length R ≤ room)
 
 abbrev pub Accepted-exactly : Type 0
-Accepted-exactly = (k room : ℕ) (S : Sort) (b : List ℕ) (R : Relation) → are-bytes b ≡ true → room ≤ greatest → (read-bank k S room b ≡ accepted R) ↔ Sound-bank S room b R
+Accepted-exactly = (k room : ℕ) (S : Sort) (b : List ℕ) (R : Relation) → room ≤ greatest → (read-bank k S room b ≡ accepted R) ↔ Sound-bank S room b R
 
 -- No two relations have one bank.
 abbrev pub Banks-once : Type 0
@@ -79,4 +79,4 @@ pub data Due-bank (k : ℕ) (S : Sort) (room : ℕ) (b : List ℕ) : Fault → T
 
 -- Bytes are refused exactly with the fault that is due to them.
 abbrev pub Refused-exactly : Type 0
-Refused-exactly = (k room : ℕ) (S : Sort) (b : List ℕ) (f : Fault) → are-bytes b ≡ true → room ≤ greatest → (read-bank k S room b ≡ refused f) ↔ Due-bank k S room b f
+Refused-exactly = (k room : ℕ) (S : Sort) (b : List ℕ) (f : Fault) → room ≤ greatest → (read-bank k S room b ≡ refused f) ↔ Due-bank k S room b f
