@@ -1,4 +1,4 @@
--- Agreement of rows, and the rows that break a dependency. Assumes nothing.
+-- The rows that break a dependency. Assumes nothing.
 use mathlib.Core.Path.{_≡_, refl, sym, ap, ap₂, subst, _∙_}
 use mathlib.Core.Bool.{Bool, true, false, cond, not, _&&_, _||_}
 use mathlib.Core.List.{List, [], _∷_, _++_, map}
@@ -8,7 +8,7 @@ use native.Mathlib.Omega.{arith}
 use lib.ListN.{length, getD, take, drop, length-map}
 use Rattle.std.specs.declared.option.Option.{Option}
 use Rattle.std.specs.declared.option.Option.the-variants.{Some, None}
-use Rattle.std.proofs.shelf.Lists.{take-more, drop-more, drop-all, map-push, drop-map, take-map, take-all}
+use Rattle.std.proofs.shelf.Lists.{take-more, drop-more, drop-all, map-push}
 use Rattle.model.specs.Values.{Value, num, Tuple, Relation, any, tail, cell, same-value}
 use Rattle.model.specs.ColumnSets.{ColumnSet, has}
 use Rattle.model.specs.Sorts.{agrees, Dependency}
@@ -17,64 +17,9 @@ use Rattle.model.specs.Judging.{breaks, dep-fault}
 use Rattle.cells.specs.Held.{value, tuple, tuples}
 use Rattle.cells.specs.declared.values.Cell.{Cell}
 use Rattle.cells.specs.declared.rows.Row.{Row}
-use Rattle.columns.specs.Members.{dependency, members}
+use Rattle.columns.specs.Members.{dependency, dependencies, members}
+use Rattle.sorts.specs.Sealed.{narrowed}
 use Rattle.columns.specs.declared.dependencies.Dependency.{Dependency as Columns-dependency}
-
--- cells by their places
-pub cell-is : (xs : List Cell) (i : ℕ) (d : Cell) → value d ≡ num 0 → value (getD xs i d) ≡ cell (map value xs) i
-cell-is [] i d e = e
-cell-is (x ∷ xs) zero d e = refl
-cell-is (x ∷ xs) (suc i) d e = cell-is xs i d e
-
-tail-drop : {A : Type 0} (i : ℕ) (l : List A) → drop (suc i) l ≡ drop i (tail l)
-tail-drop i [] = drop-nil i
-  where
-    drop-nil : {A : Type 0} (i : ℕ) → [] ≡ drop {A = A} i []
-    drop-nil zero = refl
-    drop-nil (suc i) = refl
-tail-drop i (a ∷ l) = refl
-
-tail-cell : (t : Tuple) (i : ℕ) → cell t (suc i) ≡ cell (tail t) i
-tail-cell [] i = refl
-tail-cell (v ∷ t) i = refl
-
--- agreement on the columns from a place on
-abbrev pub agrees-from : ColumnSet → Tuple → Tuple → ℕ → Bool
-agrees-from X s t i = agrees (drop i X) (drop i s) (drop i t)
-
-abbrev here-alike : ColumnSet → Tuple → Tuple → ℕ → Bool
-here-alike X s t i = not (has X i) || same-value (cell s i) (cell t i)
-
-agree-first : (b : Bool) (X : ColumnSet) (s t : Tuple) → agrees (b ∷ X) s t ≡ ((not b || same-value (cell s 0) (cell t 0)) && agrees X (tail s) (tail t))
-agree-first true X s t = refl
-agree-first false X s t = refl
-
-agree-next : (X : ColumnSet) (s t : Tuple) (i : ℕ) → i < length X → agrees-from X s t i ≡ (here-alike X s t i && agrees-from X s t (suc i))
-agree-next [] s t i h = absurd (omega arith)
-agree-next (b ∷ X) s t zero h = agree-first b X s t ∙ ap₂ (λ x y. (not b || same-value (cell s 0) (cell t 0)) && agrees X x y) (sym (tail-drop 0 s)) (sym (tail-drop 0 t))
-agree-next (b ∷ X) s t (suc i) h =
-    ap₂ (λ x y. agrees (drop i X) x y) (tail-drop i s) (tail-drop i t)
-    ∙ agree-next X (tail s) (tail t) i (omega arith)
-    ∙ ap₂ (λ x y. (not (has X i) || same-value x y) && agrees-from X (tail s) (tail t) (suc i)) (sym (tail-cell s i)) (sym (tail-cell t i))
-    ∙ ap₂ (λ x y. here-alike (b ∷ X) s t (suc i) && agrees (drop (suc i) X) x y) (sym (tail-drop (suc i) s)) (sym (tail-drop (suc i) t))
-
-unlike : (a b : Bool) → (not a || b) ≡ not (a && not b)
-unlike true true = refl
-unlike true false = refl
-unlike false b = refl
-
-module _ (X : ColumnSet) (s t : Tuple) (i : ℕ) (here : i < length X) where
-  step : (d : Bool) → (has X i && not (same-value (cell s i) (cell t i))) ≡ d → agrees-from X s t i ≡ (not d && agrees-from X s t (i + 1))
-  step d e = agree-next X s t i here ∙ ap₂ (λ x j. x && agrees-from X s t j) (unlike (has X i) (same-value (cell s i) (cell t i)) ∙ ap not e) (sym (add-one i))
-
-  pub agree-more : (has X i && not (same-value (cell s i) (cell t i))) ≡ false → agrees-from X s t i ≡ agrees-from X s t (i + 1)
-  agree-more e = step false e
-
-  pub agree-fails : (has X i && not (same-value (cell s i) (cell t i))) ≡ true → agrees-from X s t i ≡ false
-  agree-fails e = step true e
-
-pub agree-all : (X : ColumnSet) (s t : Tuple) (i : ℕ) → length X ≤ i → agrees-from X s t i ≡ true
-agree-all X s t i h = ap (λ Y. agrees Y (drop i s) (drop i t)) (drop-all i X h)
 
 -- the rows before one, the last of them first
 abbrev onto : Relation → Relation → Relation
@@ -135,13 +80,18 @@ pub break-none : (k : ℕ) (D : List Dependency) (rows : List Row) (i : ℕ) →
 break-none k D rows i h = ap (λ J. dep-fault k D (onto [] (tuples (take i rows))) i (tuples J)) (drop-all i rows h)
 
 -- whether a row breaks a dependency with one of the earlier rows
-abbrev pub breaks-by : Relation → Tuple → Columns-dependency → Bool
-breaks-by E t d = any (λ s. agrees (members (d .left)) s t && not (agrees (members (d .right)) s t)) E
+abbrev pub breaks-by : ℕ → Relation → Tuple → Columns-dependency → Bool
+breaks-by w E t d = any (λ s. agrees (take w (members (d .left))) s t && not (agrees (take w (members (d .right))) s t)) E
 
 -- whether two rows break it
-abbrev pub break-both : Columns-dependency → Tuple → Row → Bool
-break-both d t s = agrees (members (d .left)) (tuple s) t && not (agrees (members (d .right)) (tuple s) t)
+abbrev pub break-both : ℕ → Columns-dependency → Tuple → Row → Bool
+break-both w d t s = agrees (take w (members (d .left))) (tuple s) t && not (agrees (take w (members (d .right))) (tuple s) t)
 
 pub any-map : {A B : Type 0} (g : A → B) (p : B → Bool) (l : List A) → any p (map g l) ≡ any (λ a. p (g a)) l
 any-map g p [] = refl
 any-map g p (a ∷ l) = ap (λ b. p (g a) || b) (any-map g p l)
+
+pub breaks-each : (w : ℕ) (E : Relation) (t : Tuple) (D : List Columns-dependency) → breaks (map (narrowed w) (dependencies D)) E t ≡ any (breaks-by w E t) D
+breaks-each w E t D =
+    any-map (narrowed w) (λ d. any (λ s. agrees (d .left) s t && not (agrees (d .right) s t)) E) (dependencies D)
+    ∙ any-map dependency (λ d. any (λ s. agrees (take w (d .left)) s t && not (agrees (take w (d .right)) s t)) E) D

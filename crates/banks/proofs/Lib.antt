@@ -4,3 +4,4 @@ pub mod Loops
 pub mod Coded
 pub mod Judged
 pub mod Agreeing
+pub mod Sound

@@ -1,3 +1,3 @@
 pub mod Fields
 pub mod Codable
-pub mod Viewed
+pub mod Sheets

@@ -12,11 +12,10 @@ ghost use Rattle.model.specs.Sorts.{texts};
 ghost use Rattle.cells.specs.Held.{kind-of, tuple, value};
 ghost use Rattle.cells.specs.Numbered.{number};
 ghost use Rattle.columns.specs.Named.{named-columns};
+ghost use Rattle.sorts.specs.Sealed.{sort-of};
 ghost use Rattle.std.specs.declared.option.Option.the-variants.{None};
 ghost use Rattle.banks.specs.Fields.{Reads, held, kind-bytes, left, row-before};
-ghost use Rattle.banks.specs.Viewed.{viewed};
 use crate::numbers;
-use crate::view::SortView;
 use cells::Cause;
 use cells::Cell;
 use cells::Kind;
@@ -27,8 +26,7 @@ use cells::Row;
 use cells::is_text;
 use cells::refused;
 use columns::Column;
-use conditions::WrittenCondition;
-use conditions::admits_all;
+use sorts::Sort;
 use std::alloc::Global;
 
 // the edition of the format
@@ -190,17 +188,17 @@ impl<'a> Cursor<'a> {
     fn judged_row(
         &mut self,
         heap: Global,
-        sort: SortView<'_>,
+        sort: &Sort,
         before: Option<&Row>,
         index: usize,
     ) -> Result<Row, Refusal>
-        ensures { λ r. ⌜ Reads tuple (now (self .entry) .size) (now (self .entry) .kind) (now (self .exit)) (read-row (now (self .entry) .size) (viewed (sort .entry)) (row-before (before .entry)) index (left (now (self .entry)))) r ⌝ }
+        ensures { λ r. ⌜ Reads tuple (now (self .entry) .size) (now (self .entry) .kind) (now (self .exit)) (read-row (now (self .entry) .size) (sort-of (now (sort .entry))) (row-before (before .entry)) index (left (now (self .entry)))) r ⌝ }
     {
-        let row = self.row(heap, sort.columns)?;
+        let row = self.row(heap, sort.columns())?;
         if !is_above(before, &row) {
             return Err(refused(Cause::Order, self.kind, index));
         }
-        if !admits_all(sort.parts, &row) {
+        if !sort.admits(&row) {
             return Err(refused(Cause::NotAdmitted, self.kind, index));
         }
         Ok(row)
@@ -210,10 +208,10 @@ impl<'a> Cursor<'a> {
     pub(crate) fn rows(
         &mut self,
         heap: Global,
-        sort: SortView<'_>,
+        sort: &Sort,
         count: usize,
     ) -> Result<Vec<Row>, Refusal>
-        ensures { λ r. ⌜ Reads held (now (self .entry) .size) (now (self .entry) .kind) (now (self .exit)) (read-rows (now (self .entry) .size) (viewed (sort .entry)) None 0 count (left (now (self .entry)))) r ⌝ }
+        ensures { λ r. ⌜ Reads held (now (self .entry) .size) (now (self .entry) .kind) (now (self .exit)) (read-rows (now (self .entry) .size) (sort-of (now (sort .entry))) None 0 count (left (now (self .entry)))) r ⌝ }
     {
         let mut rows = Vec::new(heap);
         for i in 0..count {
@@ -226,12 +224,12 @@ impl<'a> Cursor<'a> {
     pub(crate) fn fields(
         &mut self,
         heap: Global,
-        sort: SortView<'_>,
+        sort: &Sort,
         room: usize,
     ) -> Result<Vec<Row>, Refusal>
-        ensures { λ r. ⌜ Reads held (now (self .entry) .size) (now (self .entry) .kind) (now (self .exit)) (read-fields (now (self .entry) .size) (viewed (sort .entry)) room (left (now (self .entry)))) r ⌝ }
+        ensures { λ r. ⌜ Reads held (now (self .entry) .size) (now (self .entry) .kind) (now (self .exit)) (read-fields (now (self .entry) .size) (sort-of (now (sort .entry))) room (left (now (self .entry)))) r ⌝ }
     {
-        self.header(sort.columns)?;
+        self.header(sort.columns())?;
         let count = self.count(room)?;
         let rows = self.rows(heap, sort, count)?;
         if !self.rest.is_empty() {

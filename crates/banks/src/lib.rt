@@ -3,9 +3,10 @@ mod breaking;
 mod cursor;
 mod numbers;
 mod reading;
-mod view;
+mod sheet;
+mod sheets;
 mod writing;
 
 pub use breaking::first_break;
 pub use reading::read_bank;
-pub use view::SortView;
+pub use sheet::Sheet;

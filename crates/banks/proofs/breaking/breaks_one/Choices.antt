@@ -6,4 +6,4 @@ use Rattle.banks.proofs.Agreeing.{break-both}
 use Rattle.banks.proofs.breaking.breaks_one.Given as given
 
 abbrev pub Inv-loop-s : given.InvT-loop-s
-Inv-loop-s l = any (break-both (l .d) (tuple (l .row))) (drop (l .s-index) (l .earlier)) ≡ any (break-both (l .d) (tuple (l .row))) (l .earlier)
+Inv-loop-s l = any (break-both (l .width) (l .d) (tuple (l .row))) (drop (l .s-index) (l .earlier)) ≡ any (break-both (l .width) (l .d) (tuple (l .row))) (l .earlier)

@@ -6,4 +6,4 @@ use Rattle.banks.proofs.Agreeing.{breaks-by}
 use Rattle.banks.proofs.breaking.breaks_some.Given as given
 
 abbrev pub Inv-loop-d : given.InvT-loop-d
-Inv-loop-d l = any (breaks-by (tuples (l .earlier)) (tuple (l .row))) (drop (l .d-index) (l .deps)) ≡ any (breaks-by (tuples (l .earlier)) (tuple (l .row))) (l .deps)
+Inv-loop-d l = any (breaks-by (l .width) (tuples (l .earlier)) (tuple (l .row))) (drop (l .d-index) (l .deps)) ≡ any (breaks-by (l .width) (tuples (l .earlier)) (tuple (l .row))) (l .deps)

@@ -1,29 +1,21 @@
-use mathlib.Core.Path.{_≡_, refl, sym, ap, _∙_}
-use mathlib.Core.Bool.{true, false}
-use native.Mathlib.Nat.{sub-zero}
+use mathlib.Core.Path.{_≡_, sym, ap, subst, _∙_}
+use mathlib.Core.List.{[], map}
+use Prim.Native.Nat.{ℕ}
 use borrow.Author.Needs.{needs}
-use lib.ListN.{take}
-use Rattle.model.specs.Judging.{breaks}
-use Rattle.cells.specs.Held.{tuple, tuples}
+use lib.ListN.{length, length-map}
+use Rattle.std.specs.Options.{Cases}
+use Rattle.std.specs.declared.option.Option.the-variants.{None}
+use Rattle.model.specs.Faults.{fault}
+use Rattle.model.specs.Judging.{dep-fault}
+use Rattle.cells.specs.Held.{tuples}
 use Rattle.columns.specs.Members.{dependencies}
-use Rattle.banks.proofs.Agreeing.{break-here, break-later, break-none}
+use Rattle.columns.specs.Named.{named-column}
+use Rattle.sorts.specs.Sealed.{narrowed}
 use Rattle.banks.proofs.breaking.first_break.Needs as need
 
-pub returns-then-breaks-some : need.returns-then-breaks-some
-returns-then-breaks-some c = λ k.
-    let D = dependencies (c .args .deps .now) in
-    let R = c .args .rows .now in
-    let i = c .loop-i .i in
-    let r = c .index-rows-i .result in
-    c .loop-i .inv k ∙ break-here k D R i (c .loop-i-test .taken) r (c .index-rows-i .is) (ap (λ n. breaks D (tuples (take n R)) (tuple r)) (sym (sub-zero i)) ∙ sym (c .if-breaks-some .ensures tt))
-
-pub loop-i-again : need.loop-i-again
-loop-i-again c = λ k.
-    let D = dependencies (c .args .deps .now) in
-    let R = c .args .rows .now in
-    let i = c .loop-i .i in
-    let r = c .index-rows-i .result in
-    c .loop-i .inv k ∙ break-later k D R i (c .loop-i-test .taken) r (c .index-rows-i .is) (ap (λ n. breaks D (tuples (take n R)) (tuple r)) (sym (sub-zero i)) ∙ sym (c .if-breaks-some .ensures tt))
-
 pub returns : need.returns
-returns c = λ k. c .loop-i .inv k ∙ break-none k (dependencies (c .args .deps .now)) (c .args .rows .now) (c .loop-i .i) (c .loop-i-test .left)
+returns c =
+    let C = c .columns .result .now in
+    let width : length C ≡ length (map named-column C) = sym (length-map C named-column) in
+    subst (λ D. Cases (c .first-break-of .result) ((k : ℕ) → dep-fault k D [] 0 (tuples (c .args .rows .now)) ≡ None) (λ p. (k : ℕ) → dep-fault k D [] 0 (tuples (c .args .rows .now)) ≡ fault 20 k p))
+    (ap (λ n. map (narrowed n) (dependencies (c .deps .result .now))) (width ∙ ap length (c .columns .ensures .columns)) ∙ c .deps .ensures) (c .first-break-of .ensures)

@@ -10,7 +10,7 @@ use Rattle.std.proofs.shelf.Results.{err-from-errBy}
 use Rattle.model.specs.Banks.{found, read-row, read-rows}
 use Rattle.cells.specs.Held.{tuple, tuples}
 use Rattle.banks.specs.Fields.{held, row-before}
-use Rattle.banks.specs.Viewed.{viewed}
+use Rattle.sorts.specs.Sealed.{sort-of}
 use Rattle.banks.proofs.Texts.{passed-on}
 use Rattle.banks.proofs.Judged.{last-of, last-push, before-is, rows-after, rows-begin, rows-step, rows-stop, rows-end}
 use Rattle.banks.proofs.cursor.Cursor.rows.Needs as need
@@ -18,7 +18,7 @@ use Rattle.banks.proofs.cursor.Cursor.rows.Needs as need
 pub loop-i-holds : need.loop-i-holds
 loop-i-holds c =
     let size = c .args .self .now .size in
-    let S = viewed (c .args .sort) in
+    let S = sort-of (c .args .sort .now) in
     let b = c .args .self .now .rest .now in
     (refl, refl, rows-begin size S (c .args .count) b ∙ ap (λ xs. rows-after (tuples xs) (read-rows size S (last-of None (tuples xs)) 0 (c .args .count - 0) b)) (sym (c .new-rows .ensures .items)))
 
@@ -26,7 +26,7 @@ pub returns-in-Break-row : need.returns-in-Break-row
 returns-in-Break-row c =
     let p = err-from-errBy (c .from-residual .result) (c .from-residual .ensures .1) in
     let size = c .args .self .now .size in
-    let S = viewed (c .args .sort) in
+    let S = sort-of (c .args .sort .now) in
     let Q = held (c .loop-i .rows) in
     let b = c .loop-i .self .rest .now in
     let i = c .loop-i .i in
@@ -39,7 +39,7 @@ returns-in-Break-row c =
 pub loop-i-again : need.loop-i-again
 loop-i-again c =
     let size = c .args .self .now .size in
-    let S = viewed (c .args .sort) in
+    let S = sort-of (c .args .sort .now) in
     let Q = held (c .loop-i .rows) in
     let b = c .loop-i .self .rest .now in
     let i = c .loop-i .i in
@@ -58,7 +58,7 @@ loop-i-again c =
 
 pub returns : need.returns
 returns c = (
-  c .loop-i .inv .2 ∙ rows-end (c .args .self .now .size) (viewed (c .args .sort)) (c .args .count) (c .loop-i .i) (last-of None (held (c .loop-i .rows))) (held (c .loop-i .rows)) (c .loop-i .self .rest .now) (c .loop-i-test .left),
+  c .loop-i .inv .2 ∙ rows-end (c .args .self .now .size) (sort-of (c .args .sort .now)) (c .args .count) (c .loop-i .i) (last-of None (held (c .loop-i .rows))) (held (c .loop-i .rows)) (c .loop-i .self .rest .now) (c .loop-i-test .left),
   c .loop-i .inv .0,
   c .loop-i .inv .1,
 )

@@ -1,8 +1,0 @@
-use mathlib.Core.Path.{_≡_}
-use Prim.Native.Nat.{ℕ}
-use Rattle.columns.specs.Members.{dependencies}
-use Rattle.banks.proofs.Agreeing.{fault-from}
-use Rattle.banks.proofs.breaking.first_break.Given as given
-
-abbrev pub Inv-loop-i : given.InvT-loop-i
-Inv-loop-i l = (k : ℕ) → fault-from k (dependencies (l .deps)) (l .rows) 0 ≡ fault-from k (dependencies (l .deps)) (l .rows) (l .i)
