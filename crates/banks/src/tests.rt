@@ -17,13 +17,39 @@ use std::test::*;
 // a text and a number, which depends on the text
 fn songs(heap: Global) -> Result<Sort, Refusal> {
     let mut songs = Description::new(heap);
-    songs.add_column(heap, NewColumn { word: b"title", kind: Kind::Text })?;
-    songs.add_column(heap, NewColumn { word: b"length", kind: Kind::Num })?;
+    songs.add_column(
+        heap,
+        NewColumn {
+            word: b"title",
+            kind: Kind::Text,
+        },
+    )?;
+    songs.add_column(
+        heap,
+        NewColumn {
+            word: b"length",
+            kind: Kind::Num,
+        },
+    )?;
     songs.add_dependency(heap, &[b"title"], &[b"length"])?;
     Ok(songs.seal())
 }
 
-const GLASS: [u8; 13] = [0x01, 0x02, 0x01, 0x00, 0x01, 0x05, 0x47, 0x6C, 0x61, 0x73, 0x73, 0x81, 0x48];
+const GLASS: [u8; 13] = [
+    0x01,
+    0x02,
+    0x01,
+    0x00,
+    0x01,
+    0x05,
+    0x47,
+    0x6C,
+    0x61,
+    0x73,
+    0x73,
+    0x81,
+    0x48,
+];
 
 #[test]
 fn groups(rt: LibcRuntime) -> Result<(), Fail> {
@@ -52,7 +78,9 @@ fn written(rt: LibcRuntime) -> Result<(), Fail> {
     check_eq(sheet.write_bank(heap, &mut out)?, 13)?;
     check(&out[0..13] == &GLASS[0..13] && out[13] == 9)?;
     match sheet.write_bank(heap, &mut out[0..12]) {
-        Err(Refusal::Fault(fault)) => check(fault.cause == Cause::FewBytes && fault.kind == 0 && fault.place == 0),
+        Err(Refusal::Fault(fault)) => check(
+            fault.cause == Cause::FewBytes && fault.kind == 0 && fault.place == 0,
+        ),
         _ => Err(Fail::new("accepted")),
     }
 }
@@ -71,13 +99,29 @@ fn refusals(rt: LibcRuntime) -> Result<(), Fail> {
         (b"\x01\x02\x01\x00\x80\x00", Cause::BadBytes, 4),
         (b"\x01\x02\x01\x00\x05", Cause::OutOfRoom, 4),
         (b"\x01\x02\x01\x00\x01\x00\x07", Cause::Size, 5),
-        (b"\x01\x02\x01\x00\x01\x11aaaaaaaaaaaaaaaaa\x07", Cause::Size, 5),
+        (
+            b"\x01\x02\x01\x00\x01\x11aaaaaaaaaaaaaaaaa\x07",
+            Cause::Size,
+            5,
+        ),
         (b"\x01\x02\x01\x00\x01\x11a", Cause::BadBytes, 5),
         (b"\x01\x02\x01\x00\x01\x01a", Cause::BadBytes, 7),
         (b"\x01\x02\x01\x00\x01\x01a\x07\x00", Cause::BadBytes, 8),
-        (b"\x01\x02\x01\x00\x02\x01b\x07\x01a\x07\x00", Cause::Order, 1),
-        (b"\x01\x02\x01\x00\x02\x01a\x07\x01a\x08", Cause::Dependency, 1),
-        (b"\x01\x02\x01\x00\x02\x10aaaaaaaaaaaaaaaa\x07\x01b\x80", Cause::BadBytes, 25),
+        (
+            b"\x01\x02\x01\x00\x02\x01b\x07\x01a\x07\x00",
+            Cause::Order,
+            1,
+        ),
+        (
+            b"\x01\x02\x01\x00\x02\x01a\x07\x01a\x08",
+            Cause::Dependency,
+            1,
+        ),
+        (
+            b"\x01\x02\x01\x00\x02\x10aaaaaaaaaaaaaaaa\x07\x01b\x80",
+            Cause::BadBytes,
+            25,
+        ),
     ];
     for (bytes, cause, place) in cases {
         match read_bank(heap, 2, &sort, 4, bytes) {
