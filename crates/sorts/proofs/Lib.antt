@@ -2,3 +2,5 @@ pub mod Adding
 pub mod Refusing
 pub mod Wording
 pub mod Sizing
+pub mod Tabling
+pub mod Parting
