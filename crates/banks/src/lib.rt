@@ -10,3 +10,6 @@ mod writing;
 pub use breaking::first_break;
 pub use reading::read_bank;
 pub use sheet::Sheet;
+
+#[cfg(test)]
+mod tests;

@@ -3,3 +3,4 @@ pub mod Fields
 pub mod Rows
 pub mod Whole
 pub mod Dues
+pub mod Sized

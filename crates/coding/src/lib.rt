@@ -1,6 +1,7 @@
 //! The laws of the bank format, each asked for by a small function.
 ghost use Rattle.coding.specs.Numbers.{Groups-once, None-exact, Numbers-exact};
 ghost use Rattle.coding.specs.Reading.{Accepted-exactly, Banks-once, Judged-as-offered, Refused-exactly, Written-reads};
+ghost use Rattle.coding.specs.Sizes.{Bank-length};
 
 // What stands for a number stands for no other, and reading finds exactly that number.
 pub fn numbers_stand() -> u8
@@ -9,9 +10,9 @@ pub fn numbers_stand() -> u8
     0
 }
 
-// What was written is read again, and no two relations have one bank.
+// What was written is read again, no two relations have one bank, and a bank is no longer than its largest rows make it.
 pub fn writing_stands() -> u8
-    ensures { λ _. ⌜ Written-reads × Banks-once ⌝ }
+    ensures { λ _. ⌜ Written-reads × Banks-once × Bank-length ⌝ }
 {
     0
 }

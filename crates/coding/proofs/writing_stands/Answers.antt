@@ -1,5 +1,6 @@
 use Rattle.coding.proofs.Dues.{written-reads, banks-once}
+use Rattle.coding.proofs.Sized.{bank-length}
 use Rattle.coding.proofs.writing_stands.Needs as need
 
 pub returns : need.returns
-returns c = (written-reads, banks-once)
+returns c = (written-reads, banks-once, bank-length)

@@ -13,5 +13,5 @@ pub ghost-self-2 : need.ghost-self-2
 ghost-self-2 c =
     let s = c .args .self .now in
     let rows = c .in-Continue-rows .rows in
-    let w = accepted-meets (s .kind) (s .room) (sort-of (s .sort)) (c .args .bytes .now) (held rows) (s .small) (c .in-Continue-rows .ensures tt) in
+    let w = accepted-meets _ (s .room) (sort-of (s .sort)) (c .args .bytes .now) (held rows) (s .small) (c .in-Continue-rows .ensures tt) in
     (w .0, (omega (arith, w .1, length-map (vec-items rows) tuple, rows .ok .0), (s .small, tt)))
