@@ -19,14 +19,6 @@ use Rattle.model.specs.Values.{Value, any, every}
 use Rattle.std.proofs.shelf.Tests.{and-from, le-leb, lt-leb}
 use Rattle.conditions.specs.Picks.{first-kind, is-few, of-first-kind, kind-of-value, rising, is-choice}
 
-pub every-map : {A B : Type 0} (p : B → Bool) (f : A → B) (l : List A) → every (λ x. p (f x)) l ≡ every p (map f l)
-every-map p f [] = refl
-every-map p f (x ∷ l) = ap (λ b. p (f x) && b) (every-map p f l)
-
-pub any-map : {A B : Type 0} (p : B → Bool) (f : A → B) (l : List A) → any (λ x. p (f x)) l ≡ any p (map f l)
-any-map p f [] = refl
-any-map p f (x ∷ l) = ap (λ b. p (f x) || b) (any-map p f l)
-
 below-lt : (x : Ordering) → is-below (ordering x) ≡ isLt x
 below-lt Less = refl
 below-lt Equal = refl

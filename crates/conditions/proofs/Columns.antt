@@ -6,7 +6,7 @@ use mathlib.Core.Bool.{Bool, true, false, _||_}
 use lib.ListN.{replicate}
 use Rattle.model.specs.ColumnSets.{ColumnSet, has, union, Same}
 
-or-none : (a : Bool) → a ≡ (a || false)
+pub or-none : (a : Bool) → a ≡ (a || false)
 or-none true = refl
 or-none false = refl
 

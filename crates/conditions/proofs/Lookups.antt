@@ -9,7 +9,7 @@ use lib.ListN.{length, getD, take}
 use Rattle.std.specs.declared.option.Option.{Option}
 use Rattle.std.specs.declared.option.Option.the-variants.{Some, None}
 use Rattle.std.specs.Options.{mapped}
-use Rattle.std.proofs.shelf.Lists.{length-map, length-take, getD-take, getD-map}
+use Rattle.std.proofs.shelf.Lists.{length-map, length-take, getD-take, getD-map, take-all}
 use Rattle.std.proofs.shelf.Tests.{lt-ltb, le-ltb}
 use Rattle.std.proofs.shelf.Ways.{tells}
 use Rattle.model.specs.Values.{same-bytes}
@@ -17,7 +17,7 @@ use Rattle.model.specs.Sorts.{Column, Kind, lookup}
 use Rattle.cells.specs.Held.{kind-of}
 use Rattle.columns.specs.declared.column.Column as program
 use Rattle.columns.specs.Named.{named-column, named-columns}
-use Rattle.conditions.specs.Resolving.{eight, kind-named}
+use Rattle.conditions.specs.Resolving.{first-eight, kind-named}
 
 -- a place that is below n
 abbrev cut : ℕ → Option ℕ → Option ℕ
@@ -87,17 +87,21 @@ module _ (xs : List program.Column) (w : List ℕ) where
   pub found-within : (i : ℕ) → Some i ≡ lookup (named-columns xs) w → i < length xs
   found-within i e = subst (λ n. i < n) (length-map xs named-column) (subst (In (length (named-columns xs))) (sym e) (lookup-in (named-columns xs) w))
 
-  place-cut : (o : Option ℕ) → o ≡ lookup (named-columns xs) w → cut 8 o ≡ lookup (eight (named-columns xs)) w
+  place-cut : (o : Option ℕ) → o ≡ lookup (named-columns xs) w → cut 8 o ≡ lookup (first-eight xs) w
   place-cut o e = ap (cut 8) e ∙ sym (lookup-take 8 (named-columns xs) w)
 
   -- one of the eight
-  pub some-place : (i : ℕ) → Some i ≡ lookup (named-columns xs) w → i < 8 → Some i ≡ lookup (eight (named-columns xs)) w
+  pub some-place : (i : ℕ) → Some i ≡ lookup (named-columns xs) w → i < 8 → Some i ≡ lookup (first-eight xs) w
   some-place i e h = sym (ap (λ b. cond b (Some i) None) (lt-ltb i 8 h)) ∙ place-cut (Some i) e
 
-  pub some-kind : (i : ℕ) (x : program.Column) → Some i ≡ lookup (named-columns xs) w → i < 8 → Some (kind-of (getD xs i x .kind)) ≡ kind-named (eight (named-columns xs)) w
+  pub some-kind : (i : ℕ) (x : program.Column) → Some i ≡ lookup (named-columns xs) w → i < 8 → Some (kind-of (getD xs i x .kind)) ≡ kind-named (first-eight xs) w
   some-kind i x e h =
       let lt : i < length xs = found-within i e in
-      let short : i < length (eight (named-columns xs)) = simp (length-take, length-map) (omega arith) in
+      let short : i < length (first-eight xs) = simp (length-take, length-map) (omega arith) in
       ap (λ c. Some (c .kind)) (sym (getD-take 8 (named-columns xs) i (named-column x) h ∙ getD-map named-column xs i x (named-column x) lt))
-      ∙ sym (kind-getD (eight (named-columns xs)) i (named-column x) short) ∙ ap (kind-at (eight (named-columns xs))) (some-place i e h)
-      ∙ sym (kind-lookup (eight (named-columns xs)) w)
+      ∙ sym (kind-getD (first-eight xs) i (named-column x) short) ∙ ap (kind-at (first-eight xs)) (some-place i e h)
+      ∙ sym (kind-lookup (first-eight xs) w)
+
+-- a table's columns are all looked through
+pub few-columns : (xs : List program.Column) → length xs ≤ 8 → first-eight xs ≡ named-columns xs
+few-columns xs h = take-all 8 (named-columns xs) (simp length-map (omega arith))

@@ -10,11 +10,13 @@ use Rattle.model.specs.Values.{Value, same-bytes}
 use Rattle.model.specs.Sorts.{Kind, numbers, texts, Column, lookup}
 use Rattle.model.specs.Conditions.{Comparison, Operand, column, constant, Condition, compared}
 use Rattle.model.specs.Faults.{Fault, fault}
+use Rattle.columns.specs.Named.{named-columns}
+use Rattle.columns.specs.declared.column.Column as program
 use Rattle.conditions.specs.Picks.{kind-of-value}
 
--- A table has at most eight columns.
-abbrev pub eight : List Column → List Column
-eight C = take 8 C
+-- The columns that words are looked for in: a table has at most eight.
+abbrev pub first-eight : List program.Column → List Column
+first-eight C = take 8 (named-columns C)
 
 -- the kind of the column that a word names
 abbrev pub kind-named : List Column → List ℕ → Option Kind

@@ -7,10 +7,9 @@ ghost use Rattle.model.specs.Sorts.{lookup};
 ghost use Rattle.cells.specs.Answering.{Answers};
 ghost use Rattle.cells.specs.Held.{value};
 ghost use Rattle.cells.specs.declared.faults.Refusal.the-variants.{Memory};
-ghost use Rattle.columns.specs.Named.{named-columns};
 ghost use Rattle.conditions.specs.Found.{known-kind, known-place};
 ghost use Rattle.conditions.specs.Meaning.{meaning, sign-of};
-ghost use Rattle.conditions.specs.Resolving.{eight, kind-named, named, given, comparison-fault, comparison as comparison-of};
+ghost use Rattle.conditions.specs.Resolving.{first-eight, kind-named, named, given, comparison-fault, comparison as comparison-of};
 use crate::picking::choosing::kind_of;
 use crate::places::Place;
 use crate::trees::Comparison;
@@ -34,8 +33,8 @@ pub(crate) struct Known {
 
 // The column with that word among the first eight.
 pub(crate) fn find_column(columns: &[Column], word: &[u8]) -> Option<Known>
-    ensures place { λ r. ⌜ mapped known-place r ≡ lookup (eight (named-columns (now (columns .entry)))) (now (word .entry)) ⌝ }
-    ensures kind { λ r. ⌜ mapped known-kind r ≡ kind-named (eight (named-columns (now (columns .entry)))) (now (word .entry)) ⌝ }
+    ensures place { λ r. ⌜ mapped known-place r ≡ lookup (first-eight (now (columns .entry))) (now (word .entry)) ⌝ }
+    ensures kind { λ r. ⌜ mapped known-kind r ≡ kind-named (first-eight (now (columns .entry))) (now (word .entry)) ⌝ }
 {
     let Some(at) = place_of(columns, word) else {
         return None;
@@ -59,7 +58,7 @@ impl Written {
         kind: u8,
         place: usize,
     ) -> Result<Written, Refusal>
-        ensures answers { λ r. ⌜ Answers (comparison-fault kind place (eight (named-columns (now (columns .entry)))) (now (word .entry)) (named (now (other .entry)))) (λ w. Some (meaning w) ≡ comparison-of (eight (named-columns (now (columns .entry)))) (now (word .entry)) (sign-of comparison) (named (now (other .entry)))) r ⌝ }
+        ensures answers { λ r. ⌜ Answers (comparison-fault kind place (first-eight (now (columns .entry))) (now (word .entry)) (named (now (other .entry)))) (λ w. Some (meaning w) ≡ comparison-of (first-eight (now (columns .entry))) (now (word .entry)) (sign-of comparison) (named (now (other .entry)))) r ⌝ }
         ensures decides { λ r. ⌜ when-refused r (λ e. e ≡ Memory → ⊥) ⌝ }
     {
         let Some(left) = find_column(columns, word) else {
@@ -83,7 +82,7 @@ impl Written {
         kind: u8,
         place: usize,
     ) -> Result<Written, Refusal>
-        ensures answers { λ r. ⌜ Answers (comparison-fault kind place (eight (named-columns (now (columns .entry)))) (now (word .entry)) (given (value cell))) (λ w. Some (meaning w) ≡ comparison-of (eight (named-columns (now (columns .entry)))) (now (word .entry)) (sign-of comparison) (given (value cell))) r ⌝ }
+        ensures answers { λ r. ⌜ Answers (comparison-fault kind place (first-eight (now (columns .entry))) (now (word .entry)) (given (value cell))) (λ w. Some (meaning w) ≡ comparison-of (first-eight (now (columns .entry))) (now (word .entry)) (sign-of comparison) (given (value cell))) r ⌝ }
         ensures decides { λ r. ⌜ when-refused r (λ e. e ≡ Memory → ⊥) ⌝ }
     {
         let Some(left) = find_column(columns, word) else {

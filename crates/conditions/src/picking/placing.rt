@@ -8,11 +8,10 @@ ghost use Rattle.model.specs.Values.{any, same-value};
 ghost use Rattle.cells.specs.Answering.{Answers};
 ghost use Rattle.cells.specs.Held.{kind-of, value};
 ghost use Rattle.cells.specs.declared.faults.Refusal.the-variants.{Memory};
-ghost use Rattle.columns.specs.Named.{named-columns};
 ghost use Rattle.conditions.specs.Picks.{first-kind};
 ghost use Rattle.conditions.specs.Picked.{chosen, sought};
 ghost use Rattle.conditions.specs.Placed.{pick-part, placed-cells};
-ghost use Rattle.conditions.specs.Resolving.{eight, kind-named, kinds-fault};
+ghost use Rattle.conditions.specs.Resolving.{first-eight, kind-named, kinds-fault};
 use super::Pick;
 use super::PickDebug;
 use super::choosing::kind_of;
@@ -49,7 +48,7 @@ impl Pick {
 
     // Looks its column up; a fault has the kind and the place given here.
     pub fn at(self, columns: &[Column], kind: u8, place: usize) -> Result<PickAt, Refusal>
-        ensures answers { λ r. ⌜ Answers (kinds-fault kind place (kind-named (eight (named-columns (now (columns .entry)))) (sought self)) (first-kind (chosen self))) (λ p. (Some (p .place .at) ≡ lookup (eight (named-columns (now (columns .entry)))) (sought self)) × (placed-cells p ≡ chosen self)) r ⌝ }
+        ensures answers { λ r. ⌜ Answers (kinds-fault kind place (kind-named (first-eight (now (columns .entry))) (sought self)) (first-kind (chosen self))) (λ p. (Some (p .place .at) ≡ lookup (first-eight (now (columns .entry))) (sought self)) × (placed-cells p ≡ chosen self)) r ⌝ }
         ensures decides { λ r. ⌜ when-refused r (λ e. e ≡ Memory → ⊥) ⌝ }
     {
         let Some(column) = find_column(columns, &self.word) else {

@@ -4,7 +4,7 @@ use Rattle.model.specs.Sorts.{of-kind}
 use Rattle.cells.specs.Held.{value}
 use Rattle.cells.proofs.Walks.{every-more, every-fails, every-all}
 use Rattle.conditions.specs.Picks.{is-cell}
-use Rattle.conditions.proofs.Choosing.{every-map}
+use Rattle.conditions.proofs.Mapped.{every-map}
 use Rattle.conditions.proofs.picking.choosing.are_cells.Needs as need
 
 pub loop-cell-again : need.loop-cell-again

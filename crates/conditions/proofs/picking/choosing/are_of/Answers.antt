@@ -3,7 +3,7 @@ use borrow.Author.Needs.{needs}
 use Rattle.model.specs.Sorts.{of-kind}
 use Rattle.cells.specs.Held.{kind-of, value}
 use Rattle.cells.proofs.Walks.{every-more, every-fails, every-all}
-use Rattle.conditions.proofs.Choosing.{every-map}
+use Rattle.conditions.proofs.Mapped.{every-map}
 use Rattle.conditions.proofs.picking.choosing.are_of.Needs as need
 
 pub loop-cell-again : need.loop-cell-again

@@ -2,7 +2,7 @@ use mathlib.Core.Path.{_≡_, sym, ap, _∙_}
 use Rattle.model.specs.Values.{same-value}
 use Rattle.cells.specs.Held.{value}
 use Rattle.cells.proofs.Walks.{any-more, any-found, any-none}
-use Rattle.conditions.proofs.Choosing.{any-map}
+use Rattle.conditions.proofs.Mapped.{any-map}
 use Rattle.conditions.proofs.picking.placing.is_among.Needs as need
 
 pub loop-other-again : need.loop-other-again
