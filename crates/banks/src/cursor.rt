@@ -5,12 +5,16 @@ ghost use mathlib.Core.List.{[], _∷_, map};
 ghost use Prim.Native.Nat.{ℕ};
 ghost use lib.Dec.{eqb};
 ghost use lib.ListN.{length};
-ghost use Rattle.model.specs.Banks.{header, kind-byte, place-in, read-cell, read-cells, read-count, read-header, read-number};
+ghost use Rattle.model.specs.Banks.{header, kind-byte, place-in, read-cell, read-cells, read-count, read-fields, read-header, read-number, read-row, read-rows};
+ghost use Rattle.model.specs.Judging.{above};
+ghost use Rattle.model.specs.Orders.{by-bytes};
 ghost use Rattle.model.specs.Sorts.{texts};
 ghost use Rattle.cells.specs.Held.{kind-of, tuple, value};
 ghost use Rattle.cells.specs.Numbered.{number};
 ghost use Rattle.columns.specs.Named.{named-columns};
-ghost use Rattle.banks.specs.Fields.{Reads, kind-bytes, left};
+ghost use Rattle.sorts.specs.Sealed.{sort-of};
+ghost use Rattle.std.specs.declared.option.Option.the-variants.{None};
+ghost use Rattle.banks.specs.Fields.{Reads, held, kind-bytes, left, row-before};
 use crate::numbers;
 use cells::Cause;
 use cells::Cell;
@@ -22,6 +26,7 @@ use cells::Row;
 use cells::is_text;
 use cells::refused;
 use columns::Column;
+use sorts::Sort;
 use std::alloc::Global;
 
 // the edition of the format
@@ -53,6 +58,16 @@ fn mismatch(rest: &[u8]) -> Cause
         Cause::BadBytes
     } else {
         Cause::OtherFormat
+    }
+}
+
+// Whether a row is above the one before, if there is one.
+fn is_above(before: Option<&Row>, row: &Row) -> bool
+    ensures { λ r. ⌜ r ≡ above by-bytes (row-before (before .entry)) (tuple (now (row .entry))) ⌝ }
+{
+    match before {
+        Some(last) => last.is_below(row),
+        None => true,
     }
 }
 
@@ -168,5 +183,58 @@ impl<'a> Cursor<'a> {
             return Err(above);
         }
         Ok(n)
+    }
+    // A row that is judged: it is to be above the one before, and admitted.
+    fn judged_row(
+        &mut self,
+        heap: Global,
+        sort: &Sort,
+        before: Option<&Row>,
+        index: usize,
+    ) -> Result<Row, Refusal>
+        ensures { λ r. ⌜ Reads tuple (now (self .entry) .size) (now (self .entry) .kind) (now (self .exit)) (read-row (now (self .entry) .size) (sort-of (now (sort .entry))) (row-before (before .entry)) index (left (now (self .entry)))) r ⌝ }
+    {
+        let row = self.row(heap, sort.columns())?;
+        if !is_above(before, &row) {
+            return Err(refused(Cause::Order, self.kind, index));
+        }
+        if !sort.admits(&row) {
+            return Err(refused(Cause::NotAdmitted, self.kind, index));
+        }
+        Ok(row)
+    }
+
+    // So many rows.
+    pub(crate) fn rows(
+        &mut self,
+        heap: Global,
+        sort: &Sort,
+        count: usize,
+    ) -> Result<Vec<Row>, Refusal>
+        ensures { λ r. ⌜ Reads held (now (self .entry) .size) (now (self .entry) .kind) (now (self .exit)) (read-rows (now (self .entry) .size) (sort-of (now (sort .entry))) None 0 count (left (now (self .entry)))) r ⌝ }
+    {
+        let mut rows = Vec::new(heap);
+        for i in 0..count {
+            let row = self.judged_row(heap, sort, rows.last(), i)?;
+            rows.push(row)?;
+        }
+        Ok(rows)
+    }
+    // The fields of a bank, to its end.
+    pub(crate) fn fields(
+        &mut self,
+        heap: Global,
+        sort: &Sort,
+        room: usize,
+    ) -> Result<Vec<Row>, Refusal>
+        ensures { λ r. ⌜ Reads held (now (self .entry) .size) (now (self .entry) .kind) (now (self .exit)) (read-fields (now (self .entry) .size) (sort-of (now (sort .entry))) room (left (now (self .entry)))) r ⌝ }
+    {
+        self.header(sort.columns())?;
+        let count = self.count(room)?;
+        let rows = self.rows(heap, sort, count)?;
+        if !self.rest.is_empty() {
+            return Err(self.bad(Cause::BadBytes));
+        }
+        Ok(rows)
     }
 }

@@ -15,16 +15,9 @@ use Rattle.model.specs.Values.{Value, num, text, Tuple, Relation, every}
 use Rattle.model.specs.Sorts.{Kind, numbers, texts, is-text, of-kind, greatest, Column, Sort}
 use Rattle.model.specs.Decisions.{shaped}
 use Rattle.model.specs.Banks.{groups, coded-cell, coded-row, Read, found, bad, and-then, place-in, read-header, find-number, or-23, read-number, read-text, read-cell, read-cells}
-use Rattle.coding.specs.Numbers.{are-bytes, Begins, No-number}
+use Rattle.coding.specs.Numbers.{Begins, No-number}
 use Rattle.coding.specs.Reading.{Bad-cell, not-a-number, no-length, cut-off, not-a-text}
 use Rattle.coding.proofs.Groups.{find-groups, Front, a-number, no-number, front, none-exact}
-
-pub bytes-right : (x y : List ℕ) → are-bytes (x ++ y) ≡ true → are-bytes y ≡ true
-bytes-right [] y e = e
-bytes-right (a ∷ x) y e = bytes-right x y (and-parts (ltb a 256) (are-bytes (x ++ y)) e .1)
-
-pub bytes-after : (b x y : List ℕ) → b ≡ x ++ y → are-bytes b ≡ true → are-bytes y ≡ true
-bytes-after b x y g e = bytes-right x y (ap are-bytes (sym g) ∙ e)
 
 -- good fields are read
 pub number-good : (size n : ℕ) (r : List ℕ) → n ≤ greatest → read-number size (groups n ++ r) ≡ found n r
@@ -70,10 +63,10 @@ of-text size n b true true e h = good-cell (text (take n b)) (drop n b) h (text-
 of-text size n b true false e h = bad-cell 3 (place-in size (n ∷ b)) (not-a-text (take n b) (drop n b) (text-split n b (leb-true n (length b) e)) h) refl
 of-text size n b false q e h = bad-cell 23 (place-in size (n ∷ b)) (cut-off n b refl (leb-false n (length b) e)) refl
 
-pub cell-read : (size : ℕ) (k : Kind) (b : List ℕ) → are-bytes b ≡ true → Cell-read size b k (read-cell size k b)
-cell-read size numbers b e = of-front size b (find-number b) (front b e)
-cell-read size texts [] e = bad-cell 23 size (no-length refl) (omega arith)
-cell-read size texts (n ∷ b) e = of-text size n b (leb n (length b)) (is-text (take n b)) refl refl
+pub cell-read : (size : ℕ) (k : Kind) (b : List ℕ) → Cell-read size b k (read-cell size k b)
+cell-read size numbers b = of-front size b (find-number b) (front b)
+cell-read size texts [] = bad-cell 23 size (no-length refl) (omega arith)
+cell-read size texts (n ∷ b) = of-text size n b (leb n (length b)) (is-text (take n b)) refl refl
 
 -- What is read as the cells of some columns.
 pub data Cells-read (size : ℕ) (b : List ℕ) (C : List Column) : Read Tuple → Type 0 where
@@ -87,13 +80,13 @@ more-cells : (size : ℕ) (b : List ℕ) (c : Column) (C : List Column) (v : Val
 more-cells size b c C v r h g _ (good-cells t s k e) = good-cells (v ∷ t) s (and-from (of-kind (c .kind) v) (shaped C t) h k) (in-row b v t r s g e)
 more-cells size b c C v r h g _ (bad-cells A D d t s n p q k e x y) = bad-cells (c ∷ A) D d (v ∷ t) s n p (ap (λ (l : List Column). c ∷ l) q) (and-from (of-kind (c .kind) v) (shaped A t) h k) (in-row b v t r s g e) x y
 
-first-cell : (size : ℕ) (b : List ℕ) (c : Column) (C : List Column) → are-bytes b ≡ true → ((r : List ℕ) → are-bytes r ≡ true → Cells-read size r C (read-cells size C r)) → (o : Read Value) → Cell-read size b (c .kind) o → Cells-read size b (c ∷ C) (and-then o (λ v b₁. and-then (read-cells size C b₁) (λ t b₂. found (v ∷ t) b₂)))
-first-cell size b c C e rec _ (good-cell v r h g) = more-cells size b c C v r h g (read-cells size C r) (rec r (bytes-after b (coded-cell v) r g e))
-first-cell size b c C e rec _ (bad-cell n p h g) = bad-cells [] C c [] b n p refl refl refl h g
+first-cell : (size : ℕ) (b : List ℕ) (c : Column) (C : List Column) → ((r : List ℕ) → Cells-read size r C (read-cells size C r)) → (o : Read Value) → Cell-read size b (c .kind) o → Cells-read size b (c ∷ C) (and-then o (λ v b₁. and-then (read-cells size C b₁) (λ t b₂. found (v ∷ t) b₂)))
+first-cell size b c C rec _ (good-cell v r h g) = more-cells size b c C v r h g (read-cells size C r) (rec r)
+first-cell size b c C rec _ (bad-cell n p h g) = bad-cells [] C c [] b n p refl refl refl h g
 
-pub cells-read : (size : ℕ) (C : List Column) (b : List ℕ) → are-bytes b ≡ true → Cells-read size b C (read-cells size C b)
-cells-read size [] b e = good-cells [] b refl refl
-cells-read size (c ∷ C) b e = first-cell size b c C e (cells-read size C) (read-cell size (c .kind) b) (cell-read size (c .kind) b e)
+pub cells-read : (size : ℕ) (C : List Column) (b : List ℕ) → Cells-read size b C (read-cells size C b)
+cells-read size [] b = good-cells [] b refl refl
+cells-read size (c ∷ C) b = first-cell size b c C (cells-read size C) (read-cell size (c .kind) b) (cell-read size (c .kind) b)
 
 -- What is read as the header.
 pub data Header-read (size : ℕ) (b h : List ℕ) : Read (Unit {0}) → Type 0 where
@@ -120,26 +113,26 @@ header-good size [] r = refl
 header-good size (x ∷ h) r = rw (eq-eqb x x refl) (header-good size h r)
 
 -- bad fields are refused at their first byte
-pub number-bad : (size : ℕ) (b : List ℕ) → are-bytes b ≡ true → No-number b → read-number size b ≡ bad 23 (place-in size b)
-number-bad size b e f = ap (or-23 size b) (none-exact b e .1 f)
+pub number-bad : (size : ℕ) (b : List ℕ) → No-number b → read-number size b ≡ bad 23 (place-in size b)
+number-bad size b f = ap (or-23 size b) (none-exact b .1 f)
 
-cell-bad : (size : ℕ) (k : Kind) (b : List ℕ) (n : ℕ) → are-bytes b ≡ true → Bad-cell b k n → read-cell size k b ≡ bad n (place-in size b)
-cell-bad size _ b _ e (not-a-number f) = ap (λ o. and-then o (λ m rest. found (num m) rest)) (number-bad size b e f)
-cell-bad size _ b _ e (no-length g) = ap (read-cell size texts) g ∙ ap (λ p. bad 23 p) (simp g (omega arith))
-cell-bad size _ b _ e (cut-off n s g l) = ap (read-cell size texts) g ∙ rw (lt-leb n (length s) l, g)
-cell-bad size _ b _ e (not-a-text s r g h) =
+cell-bad : (size : ℕ) (k : Kind) (b : List ℕ) (n : ℕ) → Bad-cell b k n → read-cell size k b ≡ bad n (place-in size b)
+cell-bad size _ b _ (not-a-number f) = ap (λ o. and-then o (λ m rest. found (num m) rest)) (number-bad size b f)
+cell-bad size _ b _ (no-length g) = ap (read-cell size texts) g ∙ ap (λ p. bad 23 p) (simp g (omega arith))
+cell-bad size _ b _ (cut-off n s g l) = ap (read-cell size texts) g ∙ rw (lt-leb n (length s) l, g)
+cell-bad size _ b _ (not-a-text s r g h) =
     let l : leb (length s) (length (s ++ r)) ≡ true = le-leb (length s) (length (s ++ r)) (omega (arith, length-append s r)) in
     ap (read-cell size texts) g ∙ rw (l, take-append-seam s r, h, g)
 
-pub cells-bad : (size : ℕ) (A D : List Column) (c : Column) (t : Tuple) (r : List ℕ) (n : ℕ) → shaped A t ≡ true → are-bytes r ≡ true → Bad-cell r (c .kind) n → read-cells size (A ++ c ∷ D) (coded-row t ++ r) ≡ bad n (place-in size r)
-cells-bad size [] D c [] r n h e x = ap (λ o. and-then o (λ v b₁. and-then (read-cells size D b₁) (λ t b₂. found (v ∷ t) b₂))) (cell-bad size (c .kind) r n e x)
-cells-bad size [] D c (v ∷ t) r n h e x = absurd (false≢true h)
-cells-bad size (a ∷ A) D c [] r n h e x = absurd (false≢true h)
-cells-bad size (a ∷ A) D c (v ∷ t) r n h e x =
+pub cells-bad : (size : ℕ) (A D : List Column) (c : Column) (t : Tuple) (r : List ℕ) (n : ℕ) → shaped A t ≡ true → Bad-cell r (c .kind) n → read-cells size (A ++ c ∷ D) (coded-row t ++ r) ≡ bad n (place-in size r)
+cells-bad size [] D c [] r n h x = ap (λ o. and-then o (λ v b₁. and-then (read-cells size D b₁) (λ t b₂. found (v ∷ t) b₂))) (cell-bad size (c .kind) r n x)
+cells-bad size [] D c (v ∷ t) r n h x = absurd (false≢true h)
+cells-bad size (a ∷ A) D c [] r n h x = absurd (false≢true h)
+cells-bad size (a ∷ A) D c (v ∷ t) r n h x =
     let w = and-parts (of-kind (a .kind) v) (shaped A t) h in
     ap (read-cells size (a ∷ (A ++ c ∷ D))) (append-assoc (coded-cell v) (coded-row t) r)
     ∙ ap (λ o. and-then o (λ v b₁. and-then (read-cells size (A ++ c ∷ D) b₁) (λ t b₂. found (v ∷ t) b₂))) (cell-good size (a .kind) v (coded-row t ++ r) (w .0))
-    ∙ ap (λ o. and-then o (λ t b₂. found (v ∷ t) b₂)) (cells-bad size A D c t r n (w .1) e x)
+    ∙ ap (λ o. and-then o (λ t b₂. found (v ∷ t) b₂)) (cells-bad size A D c t r n (w .1) x)
 
 pub header-ends : (size : ℕ) (b : List ℕ) (x : ℕ) (later : List ℕ) → read-header size (b ++ x ∷ later) b ≡ bad 23 size
 header-ends size [] x later = refl

@@ -16,9 +16,8 @@ use Rattle.model.specs.Faults.{Fault, fault, or-then}
 use Rattle.model.specs.Decisions.{shaped}
 use Rattle.model.specs.Judging.{above, row-fault, rows-fault}
 use Rattle.model.specs.Banks.{coded-row, coded-rows, Read, found, bad, and-then, place-in, read-cells, judge-row, read-row, read-rows}
-use Rattle.coding.specs.Numbers.{are-bytes}
 use Rattle.coding.specs.Reading.{Bad-cell, at}
-use Rattle.coding.proofs.Fields.{bytes-after, cells-good, cells-bad, Cells-read, good-cells, bad-cells, cells-read}
+use Rattle.coding.proofs.Fields.{cells-good, cells-bad, Cells-read, good-cells, bad-cells, cells-read}
 
 -- faults, or none
 pub not-none : (f : Fault) → _≡_ {A = Option Fault} None (Some f) → ⊥
@@ -58,7 +57,7 @@ fine-shaped k S before row (t ∷ R) e =
     and-from (shaped (S .columns) t) (every (shaped (S .columns)) R) (row-passes k S before row t (w .0) .0) (fine-shaped k S (Some t) (suc row) R (w .1))
 
 -- the faults of rows have the table's kind
-or-either : (x y : Option Fault) (f : Fault) → or-then x y ≡ Some f → (x ≡ Some f) ⊎ (y ≡ Some f)
+pub or-either : (x y : Option Fault) (f : Fault) → or-then x y ≡ Some f → (x ≡ Some f) ⊎ (y ≡ Some f)
 or-either None y f e = inr e
 or-either (Some g) y f e = inl e
 
@@ -129,14 +128,14 @@ module _ (size k : ℕ) (S : Sort) (before : Option Tuple) (row n : ℕ) (b : Li
   judged-row h rec true false e g = bad-row [] t r (at 19 k row) 19 row (omega arith) refl h (ap (λ x. or-then x None) (row-19 k S before row t h e g)) stands refl
   judged-row h rec false d e g = bad-row [] t r (at 18 k row) 18 row (omega arith) refl h (ap (λ x. or-then x None) (row-18 k S before row t h e)) stands refl
 
-first-row : (size k : ℕ) (S : Sort) (before : Option Tuple) (row n : ℕ) (b : List ℕ) → are-bytes b ≡ true → ((t : Tuple) (r : List ℕ) → are-bytes r ≡ true → Rows-read size k S (Some t) (suc row) n r (read-rows size S (Some t) (suc row) n r)) → (o : Read Tuple) → Cells-read size b (S .columns) o →
+first-row : (size k : ℕ) (S : Sort) (before : Option Tuple) (row n : ℕ) (b : List ℕ) → ((t : Tuple) (r : List ℕ) → Rows-read size k S (Some t) (suc row) n r (read-rows size S (Some t) (suc row) n r)) → (o : Read Tuple) → Cells-read size b (S .columns) o →
     Rows-read size k S before row (suc n) b (and-then (and-then o (judge-row S before row)) (λ t b₁. and-then (read-rows size S (Some t) (suc row) n b₁) (λ R b₂. found (t ∷ R) b₂)))
-first-row size k S before row n b e rec _ (good-cells t r h g) = judged-row size k S before row n b t r g h (rec t r (bytes-after b (coded-row t) r g e)) (above by-bytes before t) (admitted (S .parts) t) refl refl
-first-row size k S before row n b e rec _ (bad-cells A D c t r m p q h g x y) = bad-field [] A D c t r m p (omega arith) refl q h g x y
+first-row size k S before row n b rec _ (good-cells t r h g) = judged-row size k S before row n b t r g h (rec t r) (above by-bytes before t) (admitted (S .parts) t) refl refl
+first-row size k S before row n b rec _ (bad-cells A D c t r m p q h g x y) = bad-field [] A D c t r m p (omega arith) refl q h g x y
 
-pub rows-read : (size k : ℕ) (S : Sort) (before : Option Tuple) (row n : ℕ) (b : List ℕ) → are-bytes b ≡ true → Rows-read size k S before row n b (read-rows size S before row n b)
-rows-read size k S before row zero b e = good-rows [] b refl refl refl
-rows-read size k S before row (suc n) b e = first-row size k S before row n b e (λ t r h. rows-read size k S (Some t) (suc row) n r h) (read-cells size (S .columns) b) (cells-read size (S .columns) b e)
+pub rows-read : (size k : ℕ) (S : Sort) (before : Option Tuple) (row n : ℕ) (b : List ℕ) → Rows-read size k S before row n b (read-rows size S before row n b)
+rows-read size k S before row zero b = good-rows [] b refl refl refl
+rows-read size k S before row (suc n) b = first-row size k S before row n b (λ t r. rows-read size k S (Some t) (suc row) n r) (read-cells size (S .columns) b) (cells-read size (S .columns) b)
 
 -- A bad field, or a bad row, after good rows.
 module _ (size k : ℕ) (S : Sort) where
@@ -147,15 +146,15 @@ module _ (size k : ℕ) (S : Sort) where
       ∙ ap (λ o. and-then (and-then o (judge-row S before row)) (λ t b₁. and-then (read-rows size S (Some t) (suc row) n b₁) (λ Q b₂. found (t ∷ Q) b₂))) (cells-good size (S .columns) t (coded-rows R ++ x) (w .0))
       ∙ rw (w .1, w .2)
 
-  pub field-refused : (before : Option Tuple) (row n : ℕ) (R : Relation) (A D : List Column) (c : Column) (t : Tuple) (r : List ℕ) (m : ℕ) → length R < n → rows-fault by-bytes k S before row R ≡ None → S .columns ≡ A ++ c ∷ D → shaped A t ≡ true → are-bytes r ≡ true → Bad-cell r (c .kind) m → read-rows size S before row n (coded-rows R ++ (coded-row t ++ r)) ≡ bad m (place-in size r)
-  field-refused before row zero R A D c t r m l e q h g x = absurd (omega arith)
-  field-refused before row (suc n) [] A D c t r m l e q h g x =
+  pub field-refused : (before : Option Tuple) (row n : ℕ) (R : Relation) (A D : List Column) (c : Column) (t : Tuple) (r : List ℕ) (m : ℕ) → length R < n → rows-fault by-bytes k S before row R ≡ None → S .columns ≡ A ++ c ∷ D → shaped A t ≡ true → Bad-cell r (c .kind) m → read-rows size S before row n (coded-rows R ++ (coded-row t ++ r)) ≡ bad m (place-in size r)
+  field-refused before row zero R A D c t r m l e q h x = absurd (omega arith)
+  field-refused before row (suc n) [] A D c t r m l e q h x =
       ap (λ o. and-then (and-then o (judge-row S before row)) (λ t b₁. and-then (read-rows size S (Some t) (suc row) n b₁) (λ Q b₂. found (t ∷ Q) b₂)))
-      (ap (λ C. read-cells size C (coded-row t ++ r)) q ∙ cells-bad size A D c t r m h g x)
-  field-refused before row (suc n) (s ∷ R) A D c t r m l e q h g x =
+      (ap (λ C. read-cells size C (coded-row t ++ r)) q ∙ cells-bad size A D c t r m h x)
+  field-refused before row (suc n) (s ∷ R) A D c t r m l e q h x =
       let w = or-none (row-fault by-bytes k S before row s) (rows-fault by-bytes k S (Some s) (suc row) R) e in
       pass-row before row n s R (coded-row t ++ r) (w .0)
-      ∙ ap (λ o. and-then o (λ Q b₂. found (s ∷ Q) b₂)) (field-refused (Some s) (suc row) n R A D c t r m (omega arith) (w .1) q h g x)
+      ∙ ap (λ o. and-then o (λ Q b₂. found (s ∷ Q) b₂)) (field-refused (Some s) (suc row) n R A D c t r m (omega arith) (w .1) q h x)
 
   refuse-step : (row : ℕ) (t : Tuple) (r : List ℕ) (rest : Tuple → List ℕ → Read Relation) (f : Fault) (a d : Bool) → or-then (cond a (cond d None (fault 19 k row)) (fault 18 k row)) None ≡ Some f → and-then (cond a (cond d (found t r) (bad 19 row)) (bad 18 row)) rest ≡ bad (f .number) (f .place)
   refuse-step row t r rest f true true e = absurd (not-none f e)

@@ -1,5 +1,6 @@
 -- Whole banks. Assumes nothing.
 use mathlib.Core.Path.{_≡_, refl, sym, ap, ap₂, subst, _∙_}
+use mathlib.Core.Logic.{_↔_}
 use mathlib.Core.Bool.{Bool, cond, true, false}
 use mathlib.Core.List.{List, [], _∷_, _++_, append-assoc, append-nil}
 use Prim.Native.Nat.{ℕ, zero, suc, _+_, _-_, _<_, _≤_}
@@ -16,11 +17,29 @@ use Rattle.model.specs.Faults.{Fault, or-then}
 use Rattle.model.specs.Decisions.{shaped}
 use Rattle.model.specs.Judging.{rows-fault, dep-fault, sort-fault}
 use Rattle.model.specs.Banks.{groups, coded-row, coded-rows, header, bank, Read, found, bad, and-then, place-in, read-header, find-number, or-23, read-number, read-count, read-rows, read-end, read-fields, Reading, accepted, refused, accept-unless, judge-fields, read-bank}
-use Rattle.coding.specs.Numbers.{are-bytes, Begins, No-number}
-use Rattle.coding.specs.Reading.{Judged-as-offered, Sound-bank, Accepted-exactly, Bad-cell, at, Fine, Due-bank, header-cut, header-differs, no-count, count-above, cell-bad, row-bad, left-over, row-breaks, Refused-exactly}
+use Rattle.coding.specs.Numbers.{Begins, No-number}
+use Rattle.coding.specs.Reading.{Judged-as-offered, Bad-cell, at}
 use Rattle.coding.proofs.Groups.{Front, a-number, no-number, front}
-use Rattle.coding.proofs.Fields.{bytes-after, number-good, number-bad, Header-read, whole-header, short-header, other-header, header-read, header-good, header-ends, header-other}
+use Rattle.coding.proofs.Fields.{number-good, number-bad, Header-read, whole-header, short-header, other-header, header-read, header-good, header-ends, header-other}
 use Rattle.coding.proofs.Rows.{not-none, or-none, fine-shaped, judged, rows-good, Rows-read, rows-kind, good-rows, bad-field, bad-row, rows-read, field-refused, row-refused}
+
+-- What is accepted and what is refused, by the tests that are computed.
+abbrev pub Clean-bank : ℕ → Sort → ℕ → List ℕ → Relation → Type 0
+Clean-bank k S room b R = (b ≡ bank (S .columns) R) × (sort-fault by-bytes k S R ≡ None) × (length R ≤ room)
+
+-- rows that are due no fault of their own
+abbrev pub Fine : ℕ → Sort → Relation → Type 0
+Fine k S R = rows-fault by-bytes k S None 0 R ≡ None
+
+pub data Bank-fault (k : ℕ) (S : Sort) (room : ℕ) (b : List ℕ) : Fault → Type 0 where
+  header-cut : (x : ℕ) (later : List ℕ) → header (S .columns) ≡ b ++ x ∷ later → Bank-fault k S room b (at 23 k (length b))
+  header-differs : (h later rest : List ℕ) (x y : ℕ) → header (S .columns) ≡ h ++ x ∷ later → b ≡ h ++ y ∷ rest → (x ≡ y → ⊥) → Bank-fault k S room b (at 24 k (length h))
+  no-count : (rest : List ℕ) → b ≡ header (S .columns) ++ rest → No-number rest → Bank-fault k S room b (at 23 k (length (header (S .columns))))
+  count-above : (n : ℕ) (rest : List ℕ) → b ≡ header (S .columns) ++ (groups n ++ rest) → n ≤ greatest → room < n → Bank-fault k S room b (at 21 k (length (header (S .columns))))
+  cell-bad : (n : ℕ) (R : Relation) (C D : List Column) (c : Column) (t : Tuple) (rest : List ℕ) (number : ℕ) → b ≡ header (S .columns) ++ (groups n ++ (coded-rows R ++ (coded-row t ++ rest))) → n ≤ room → length R < n → Fine k S R → S .columns ≡ C ++ c ∷ D → shaped C t ≡ true → Bad-cell rest (c .kind) number → Bank-fault k S room b (at number k (length b - length rest))
+  row-bad : (n : ℕ) (R : Relation) (t : Tuple) (rest : List ℕ) (f : Fault) → b ≡ header (S .columns) ++ (groups n ++ (coded-rows R ++ (coded-row t ++ rest))) → n ≤ room → length R < n → Fine k S R → shaped (S .columns) t ≡ true → rows-fault by-bytes k S None 0 (R ++ t ∷ []) ≡ Some f → Bank-fault k S room b f
+  left-over : (R : Relation) (x : ℕ) (rest : List ℕ) → b ≡ bank (S .columns) R ++ x ∷ rest → length R ≤ room → Fine k S R → Bank-fault k S room b (at 23 k (length (bank (S .columns) R)))
+  row-breaks : (R : Relation) (f : Fault) → b ≡ bank (S .columns) R → length R ≤ room → Fine k S R → dep-fault k (S .deps) [] 0 R ≡ Some f → Bank-fault k S room b f
 
 -- the place after what stands before
 after : (b x y : List ℕ) → b ≡ x ++ y → place-in (length b) y ≡ length x
@@ -58,11 +77,11 @@ judged-as-offered k room S R h l e =
 -- What is read as the fields of a bank.
 data Fields-read (k : ℕ) (S : Sort) (room : ℕ) (b : List ℕ) : Read Relation → Type 0 where
   good-fields : (R : Relation) → b ≡ bank (S .columns) R → Fine k S R → length R ≤ room → Fields-read k S room b (found R [])
-  bad-fields : (n p : ℕ) → Due-bank k S room b (at n k p) → Fields-read k S room b (bad n p)
+  bad-fields : (n p : ℕ) → Bank-fault k S room b (at n k p) → Fields-read k S room b (bad n p)
 
 module _ (k : ℕ) (S : Sort) (room : ℕ) (b : List ℕ) where
-  moved : (n p q : ℕ) → p ≡ q → Due-bank k S room b (at n k q) → Due-bank k S room b (at n k p)
-  moved n p q e d = subst (λ z. Due-bank k S room b (at n k z)) (sym e) d
+  moved : (n p q : ℕ) → p ≡ q → Bank-fault k S room b (at n k q) → Bank-fault k S room b (at n k p)
+  moved n p q e d = subst (λ z. Bank-fault k S room b (at n k z)) (sym e) d
 
   of-end : (R : Relation) (r : List ℕ) → b ≡ header (S .columns) ++ (groups (length R) ++ (coded-rows R ++ r)) → Fine k S R → length R ≤ room → Fields-read k S room b (read-end (length b) R r)
   of-end R [] g h l = good-fields R (g ∙ ap (λ x. header (S .columns) ++ (groups (length R) ++ x)) (append-nil (coded-rows R))) h l
@@ -76,34 +95,34 @@ module _ (k : ℕ) (S : Sort) (room : ℕ) (b : List ℕ) where
   of-rows n s g l _ (bad-field R A D c t r m p q h i j e x y) =
       bad-fields m p (moved m p (length b - length r) y (cell-bad n R A D c t r m (g ∙ ap (λ x. header (S .columns) ++ (groups n ++ x)) e) l q h i j x))
   of-rows n s g l _ (bad-row R t r f m p q h i x e y) =
-      bad-fields m p (subst (Due-bank k S room b) y (row-bad n R t r f (g ∙ ap (λ x. header (S .columns) ++ (groups n ++ x)) e) l q h i x))
+      bad-fields m p (subst (Bank-fault k S room b) y (row-bad n R t r f (g ∙ ap (λ x. header (S .columns) ++ (groups n ++ x)) e) l q h i x))
 
-  of-room : are-bytes b ≡ true → (n : ℕ) (r s : List ℕ) → b ≡ header (S .columns) ++ r → Begins r n s → (t : Bool) → leb n room ≡ t →
+  of-room : (n : ℕ) (r s : List ℕ) → b ≡ header (S .columns) ++ r → Begins r n s → (t : Bool) → leb n room ≡ t →
       Fields-read k S room b (and-then (cond t (found n s) (bad 21 (place-in (length b) r))) (λ n b₂. and-then (read-rows (length b) S None 0 n b₂) (read-end (length b))))
-  of-room e n r s g h true q =
+  of-room n r s g h true q =
       let w = g ∙ ap (λ x. header (S .columns) ++ x) (h .1) in
-      of-rows n s w (leb-true n room q) (read-rows (length b) S None 0 n s) (rows-read (length b) k S None 0 n s (bytes-after r (groups n) s (h .1) (bytes-after b (header (S .columns)) r g e)))
-  of-room e n r s g h false q =
+      of-rows n s w (leb-true n room q) (read-rows (length b) S None 0 n s) (rows-read (length b) k S None 0 n s)
+  of-room n r s g h false q =
       bad-fields 21 (place-in (length b) r) (moved 21 (place-in (length b) r) (length (header (S .columns))) (after b (header (S .columns)) r g) (count-above n s (g ∙ ap (λ x. header (S .columns) ++ x) (h .1)) (h .0) (leb-false n room q)))
 
-  of-count : are-bytes b ≡ true → (r : List ℕ) → b ≡ header (S .columns) ++ r → (o : Option (ℕ × List ℕ)) → Front r o →
+  of-count : (r : List ℕ) → b ≡ header (S .columns) ++ r → (o : Option (ℕ × List ℕ)) → Front r o →
       Fields-read k S room b (and-then (and-then (or-23 (length b) r o) (λ n rest. cond (leb n room) (found n rest) (bad 21 (place-in (length b) r)))) (λ n b₂. and-then (read-rows (length b) S None 0 n b₂) (read-end (length b))))
-  of-count e r g _ (a-number n s h) = of-room e n r s g h (leb n room) refl
-  of-count e r g _ (no-number f) = bad-fields 23 (place-in (length b) r) (moved 23 (place-in (length b) r) (length (header (S .columns))) (after b (header (S .columns)) r g) (no-count r g f))
+  of-count r g _ (a-number n s h) = of-room n r s g h (leb n room) refl
+  of-count r g _ (no-number f) = bad-fields 23 (place-in (length b) r) (moved 23 (place-in (length b) r) (length (header (S .columns))) (after b (header (S .columns)) r g) (no-count r g f))
 
-  of-header : are-bytes b ≡ true → (o : Read (Unit {0})) → Header-read (length b) b (header (S .columns)) o →
+  of-header : (o : Read (Unit {0})) → Header-read (length b) b (header (S .columns)) o →
       Fields-read k S room b (and-then o (λ _ b₁. and-then (read-count (length b) room b₁) (λ n b₂. and-then (read-rows (length b) S None 0 n b₂) (read-end (length b)))))
-  of-header e _ (whole-header r g) = of-count e r g (find-number r) (front r (bytes-after b (header (S .columns)) r g e))
-  of-header e _ (short-header x later g) = bad-fields 23 (length b) (header-cut x later g)
-  of-header e _ (other-header h later rest x y p i j n q) = bad-fields 24 p (moved 24 p (length h) (q ∙ after b h (y ∷ rest) j) (header-differs h later rest x y i j n))
+  of-header _ (whole-header r g) = of-count r g (find-number r) (front r)
+  of-header _ (short-header x later g) = bad-fields 23 (length b) (header-cut x later g)
+  of-header _ (other-header h later rest x y p i j n q) = bad-fields 24 p (moved 24 p (length h) (q ∙ after b h (y ∷ rest) j) (header-differs h later rest x y i j n))
 
-  fields-read : are-bytes b ≡ true → Fields-read k S room b (read-fields (length b) S room b)
-  fields-read e = of-header e (read-header (length b) (header (S .columns)) b) (header-read (length b) (header (S .columns)) b)
+  fields-read : Fields-read k S room b (read-fields (length b) S room b)
+  fields-read = of-header (read-header (length b) (header (S .columns)) b) (header-read (length b) (header (S .columns)) b)
 
 -- What is read as a bank.
 data Bank-read (k : ℕ) (S : Sort) (room : ℕ) (b : List ℕ) : Reading → Type 0 where
-  sound : (R : Relation) → Sound-bank k S room b R → Bank-read k S room b (accepted R)
-  due : (f : Fault) → Due-bank k S room b f → Bank-read k S room b (refused f)
+  sound : (R : Relation) → Clean-bank k S room b R → Bank-read k S room b (accepted R)
+  due : (f : Fault) → Bank-fault k S room b f → Bank-read k S room b (refused f)
 
 of-deps : (k : ℕ) (S : Sort) (room : ℕ) (b : List ℕ) (R : Relation) → b ≡ bank (S .columns) R → Fine k S R → length R ≤ room → (o : Option Fault) → dep-fault k (S .deps) [] 0 R ≡ o → Bank-read k S room b (accept-unless o R)
 of-deps k S room b R g h l None e = sound R (g, ap₂ or-then h e, l)
@@ -113,36 +132,36 @@ of-fields : (k : ℕ) (S : Sort) (room : ℕ) (b : List ℕ) (o : Read Relation)
 of-fields k S room b _ (good-fields R g h l) = of-deps k S room b R g h l (dep-fault k (S .deps) [] 0 R) refl
 of-fields k S room b _ (bad-fields n p d) = due (at n k p) d
 
-bank-read : (k : ℕ) (S : Sort) (room : ℕ) (b : List ℕ) → are-bytes b ≡ true → Bank-read k S room b (read-bank k S room b)
-bank-read k S room b e = of-fields k S room b (read-fields (length b) S room b) (fields-read k S room b e)
+bank-read : (k : ℕ) (S : Sort) (room : ℕ) (b : List ℕ) → Bank-read k S room b (read-bank k S room b)
+bank-read k S room b = of-fields k S room b (read-fields (length b) S room b) (fields-read k S room b)
 
 accepted-not-refused : (R : Relation) (f : Fault) → accepted R ≡ refused f → ⊥
 accepted-not-refused R f e = let z : _≡_ {A = ℕ} 0 1 = cc in omega arith
 
-same-accepted : (R Q : Relation) → accepted R ≡ accepted Q → R ≡ Q
+pub same-accepted : (R Q : Relation) → accepted R ≡ accepted Q → R ≡ Q
 same-accepted R Q e = cc
 
 same-refused : (f g : Fault) → refused f ≡ refused g → f ≡ g
 same-refused f g e = cc
 
-is-sound : (k : ℕ) (S : Sort) (room : ℕ) (b : List ℕ) (R : Relation) (o : Reading) → Bank-read k S room b o → o ≡ accepted R → Sound-bank k S room b R
-is-sound k S room b R _ (sound Q s) e = subst (Sound-bank k S room b) (same-accepted Q R e) s
+is-sound : (k : ℕ) (S : Sort) (room : ℕ) (b : List ℕ) (R : Relation) (o : Reading) → Bank-read k S room b o → o ≡ accepted R → Clean-bank k S room b R
+is-sound k S room b R _ (sound Q s) e = subst (Clean-bank k S room b) (same-accepted Q R e) s
 is-sound k S room b R _ (due f d) e = absurd (accepted-not-refused R f (sym e))
 
-is-due : (k : ℕ) (S : Sort) (room : ℕ) (b : List ℕ) (f : Fault) (o : Reading) → Bank-read k S room b o → o ≡ refused f → Due-bank k S room b f
+is-due : (k : ℕ) (S : Sort) (room : ℕ) (b : List ℕ) (f : Fault) (o : Reading) → Bank-read k S room b o → o ≡ refused f → Bank-fault k S room b f
 is-due k S room b f _ (sound Q s) e = absurd (accepted-not-refused Q f e)
-is-due k S room b f _ (due g d) e = subst (Due-bank k S room b) (same-refused g f e) d
+is-due k S room b f _ (due g d) e = subst (Bank-fault k S room b) (same-refused g f e) d
 
-sound-accepted : (k room : ℕ) (S : Sort) (b : List ℕ) (R : Relation) → room ≤ greatest → Sound-bank k S room b R → read-bank k S room b ≡ accepted R
+pub sound-accepted : (k room : ℕ) (S : Sort) (b : List ℕ) (R : Relation) → room ≤ greatest → Clean-bank k S room b R → read-bank k S room b ≡ accepted R
 sound-accepted k room S b R h (g, n, l) =
     let w = or-none (rows-fault by-bytes k S None 0 R) (dep-fault k (S .deps) [] 0 R) n in
     ap (read-bank k S room) g ∙ judged-as-offered k room S R h l (fine-shaped k S None 0 R (w .0)) ∙ ap (λ o. accept-unless o R) n
 
-pub accepted-exactly : Accepted-exactly
-accepted-exactly k room S b R e h = (is-sound k S room b R (read-bank k S room b) (bank-read k S room b e), sound-accepted k room S b R h)
+pub accepted-clean : (k room : ℕ) (S : Sort) (b : List ℕ) (R : Relation) → room ≤ greatest → (read-bank k S room b ≡ accepted R) ↔ Clean-bank k S room b R
+accepted-clean k room S b R h = (is-sound k S room b R (read-bank k S room b) (bank-read k S room b), sound-accepted k room S b R h)
 
 -- A fault that is due is the one that is given.
-module _ (k room : ℕ) (S : Sort) (b : List ℕ) (bytes : are-bytes b ≡ true) (small : room ≤ greatest) where
+module _ (k room : ℕ) (S : Sort) (b : List ℕ) (small : room ≤ greatest) where
   from-header : (n p : ℕ) → read-header (length b) (header (S .columns)) b ≡ bad n p → read-bank k S room b ≡ refused (at n k p)
   from-header n p e = ap (λ o. judge-fields k S (and-then o (λ _ b₁. and-then (read-count (length b) room b₁) (λ n b₂. and-then (read-rows (length b) S None 0 n b₂) (read-end (length b)))))) e
 
@@ -159,19 +178,16 @@ module _ (k room : ℕ) (S : Sort) (b : List ℕ) (bytes : are-bytes b ≡ true)
       ∙ ap (judge-fields k S) (opened S room (length b) n r (omega arith) l)
       ∙ ap (λ o. judge-fields k S (and-then o (read-end (length b)))) e
 
-  late : (n : ℕ) (R : Relation) (t : Tuple) (r : List ℕ) → b ≡ header (S .columns) ++ (groups n ++ (coded-rows R ++ (coded-row t ++ r))) → are-bytes r ≡ true
-  late n R t r g = bytes-after (coded-row t ++ r) (coded-row t) r refl (bytes-after (coded-rows R ++ (coded-row t ++ r)) (coded-rows R) (coded-row t ++ r) refl (bytes-after (groups n ++ (coded-rows R ++ (coded-row t ++ r))) (groups n) (coded-rows R ++ (coded-row t ++ r)) refl (bytes-after b (header (S .columns)) (groups n ++ (coded-rows R ++ (coded-row t ++ r))) g bytes)))
-
-  due-refused : (f : Fault) → Due-bank k S room b f → read-bank k S room b ≡ refused f
+  due-refused : (f : Fault) → Bank-fault k S room b f → read-bank k S room b ≡ refused f
   unfolding judged
   due-refused _ (header-cut x later g) = from-header 23 (length b) (ap (λ h. read-header (length b) h b) g ∙ header-ends (length b) b x later)
   due-refused _ (header-differs h later rest x y i j n) = from-header 24 (length h)
       (ap₂ (λ a d. read-header (length b) a d) i j ∙ header-other (length b) h later rest x y n ∙ ap (λ p. bad 24 p) (after b h (y ∷ rest) j))
   due-refused _ (no-count r g f) = from-count r 23 (length (header (S .columns))) g
-      (ap (λ o. and-then o (λ n rest. cond (leb n room) (found n rest) (bad 21 (place-in (length b) r)))) (number-bad (length b) r (bytes-after b (header (S .columns)) r g bytes) f) ∙ ap (λ p. bad 23 p) (after b (header (S .columns)) r g))
+      (ap (λ o. and-then o (λ n rest. cond (leb n room) (found n rest) (bad 21 (place-in (length b) r)))) (number-bad (length b) r f) ∙ ap (λ p. bad 23 p) (after b (header (S .columns)) r g))
   due-refused _ (count-above n r g h l) = from-count (groups n ++ r) 21 (length (header (S .columns))) g
       (ap (λ o. and-then o (λ m rest. cond (leb m room) (found m rest) (bad 21 (place-in (length b) (groups n ++ r))))) (number-good (length b) n r h) ∙ rw (lt-leb n room l) (ap (λ p. bad 21 p) (after b (header (S .columns)) (groups n ++ r) g)))
-  due-refused _ (cell-bad n R A D c t r m g l q h i j x) = from-rows n (coded-rows R ++ (coded-row t ++ r)) (bad m (place-in (length b) r)) g l (field-refused (length b) k S None 0 n R A D c t r m q h i j (late n R t r g) x)
+  due-refused _ (cell-bad n R A D c t r m g l q h i j x) = from-rows n (coded-rows R ++ (coded-row t ++ r)) (bad m (place-in (length b) r)) g l (field-refused (length b) k S None 0 n R A D c t r m q h i j x)
   due-refused _ (row-bad n R t r f g l q h i x) =
       from-rows n (coded-rows R ++ (coded-row t ++ r)) (bad (f .number) (f .place)) g l (row-refused (length b) k S None 0 n R t r f q h i x)
       ∙ ap (λ j. refused (record { number = f .number; kind = j; place = f .place })) (sym (rows-kind k S None 0 (R ++ t ∷ []) f x))
@@ -182,5 +198,5 @@ module _ (k room : ℕ) (S : Sort) (b : List ℕ) (bytes : are-bytes b ≡ true)
   due-refused _ (row-breaks R f g l h e) =
       ap (read-bank k S room) g ∙ judged-as-offered k room S R small l (fine-shaped k S None 0 R h) ∙ ap (λ o. accept-unless o R) (ap₂ or-then h e)
 
-pub refused-exactly : Refused-exactly
-refused-exactly k room S b f e h = (is-due k S room b f (read-bank k S room b) (bank-read k S room b e), due-refused k room S b e h f)
+pub refused-fault : (k room : ℕ) (S : Sort) (b : List ℕ) (f : Fault) → room ≤ greatest → (read-bank k S room b ≡ refused f) ↔ Bank-fault k S room b f
+refused-fault k room S b f h = (is-due k S room b f (read-bank k S room b) (bank-read k S room b), due-refused k room S b h f)

@@ -1,31 +1,39 @@
 -- Reading a bank: what is accepted, and what is refused with which fault.
 use mathlib.Core.Path.{_≡_}
 use mathlib.Core.List.{List, [], _∷_, _++_}
+use mathlib.Core.Logic.{_↔_}
 use mathlib.Core.Bool.{true, false}
-use Prim.Native.Nat.{ℕ, _+_, _-_, _≤_, _<_}
+use Prim.Native.Nat.{ℕ, _-_, _≤_, _<_}
 use lib.ListN.{length}
-use Rattle.std.specs.declared.option.Option.{Option}
-use Rattle.std.specs.declared.option.Option.the-variants.{Some, None}
 use Rattle.model.specs.Values.{Tuple, Relation, every}
-use Rattle.model.specs.Orders.{by-bytes}
-use Rattle.model.specs.Sorts.{Kind, numbers, texts, is-text, greatest, Column, Sort}
+use Rattle.model.specs.Orders.{by-bytes, Ascending}
+use Rattle.model.specs.Sorts.{Kind, numbers, texts, is-text, greatest, Column, Shaped, Meets-deps, admitted, Sort, Meets}
 use Rattle.model.specs.Faults.{Fault}
 use Rattle.model.specs.Decisions.{shaped}
-use Rattle.model.specs.Judging.{rows-fault, dep-fault, sort-fault}
+use Rattle.model.specs.Judging.{sort-fault}
+use Rattle.model.specs.Refusals.{Rows-right}
 use Rattle.model.specs.Banks.{groups, coded-row, coded-rows, header, bank, accepted, refused, accept-unless, read-bank}
-use Rattle.coding.specs.Numbers.{are-bytes, No-number}
+use Rattle.coding.specs.Numbers.{No-number}
 
 -- A bank of rows that have the columns' kinds is judged as a put of those rows is: refused with the fault by which they
 -- break the sort, else accepted.
 abbrev pub Judged-as-offered : Type 0
 Judged-as-offered = (k room : ℕ) (S : Sort) (R : Relation) → room ≤ greatest → length R ≤ room → every (shaped (S .columns)) R ≡ true → read-bank k S room (bank (S .columns) R) ≡ accept-unless (sort-fault by-bytes k S R) R
 
--- What is accepted is the bank of a relation in which no fault is due and which fits the room.
-abbrev pub Sound-bank : ℕ → Sort → ℕ → List ℕ → Relation → Type 0
-Sound-bank k S room b R = (b ≡ bank (S .columns) R) × (sort-fault by-bytes k S R ≡ None) × (length R ≤ room)
+-- A bank of a relation that meets the sort and fits the room is read as that relation.
+abbrev pub Written-reads : Type 0
+Written-reads = (k room : ℕ) (S : Sort) (R : Relation) → room ≤ greatest → Meets by-bytes S R → length R ≤ room → read-bank k S room (bank (S .columns) R) ≡ accepted R
+
+-- Bytes are accepted exactly when they are the bank of a relation that meets the sort and fits the room.
+abbrev pub Sound-bank : Sort → ℕ → List ℕ → Relation → Type 0
+Sound-bank S room b R = (b ≡ bank (S .columns) R) × Meets by-bytes S R × (length R ≤ room)
 
 abbrev pub Accepted-exactly : Type 0
-Accepted-exactly = (k room : ℕ) (S : Sort) (b : List ℕ) (R : Relation) → are-bytes b ≡ true → room ≤ greatest → (read-bank k S room b ≡ accepted R → Sound-bank k S room b R) × (Sound-bank k S room b R → read-bank k S room b ≡ accepted R)
+Accepted-exactly = (k room : ℕ) (S : Sort) (b : List ℕ) (R : Relation) → room ≤ greatest → (read-bank k S room b ≡ accepted R) ↔ Sound-bank S room b R
+
+-- No two relations have one bank.
+abbrev pub Banks-once : Type 0
+Banks-once = (S : Sort) (Q R : Relation) → length Q ≤ greatest → length R ≤ greatest → Meets by-bytes S Q → Meets by-bytes S R → bank (S .columns) Q ≡ bank (S .columns) R → Q ≡ R
 
 -- bytes whose first field is bad as a cell of a kind, with the fault's number
 pub data Bad-cell (b : List ℕ) : Kind → ℕ → Type 0 where
@@ -40,9 +48,12 @@ pub data Bad-cell (b : List ℕ) : Kind → ℕ → Type 0 where
 abbrev pub at : ℕ → ℕ → ℕ → Fault
 at n k p = record { number = n; kind = k; place = p }
 
--- rows that are due no fault of their own
-abbrev pub Fine : ℕ → Sort → Relation → Type 0
-Fine k S R = rows-fault by-bytes k S None 0 R ≡ None
+-- b has the header, a count n within the room, and then fewer than n rows, each right, before the rest
+pub record Begun (S : Sort) (room : ℕ) (b : List ℕ) (n : ℕ) (R : Relation) (rest : List ℕ) : Type 0 where
+  pub stands : b ≡ header (S .columns) ++ (groups n ++ (coded-rows R ++ rest))
+  pub room-for : n ≤ room
+  pub more : length R < n
+  pub right : Rows-right by-bytes S R
 
 -- The fault that is due to bytes: what stands before it is good.
 pub data Due-bank (k : ℕ) (S : Sort) (room : ℕ) (b : List ℕ) : Fault → Type 0 where
@@ -52,15 +63,20 @@ pub data Due-bank (k : ℕ) (S : Sort) (room : ℕ) (b : List ℕ) : Fault → T
   -- no count follows it, or one above the room
   no-count : (rest : List ℕ) → b ≡ header (S .columns) ++ rest → No-number rest → Due-bank k S room b (at 23 k (length (header (S .columns))))
   count-above : (n : ℕ) (rest : List ℕ) → b ≡ header (S .columns) ++ (groups n ++ rest) → n ≤ greatest → room < n → Due-bank k S room b (at 21 k (length (header (S .columns))))
-  -- after rows R and cells t of the next row, a cell of column c is bad
-  cell-bad : (n : ℕ) (R : Relation) (C D : List Column) (c : Column) (t : Tuple) (rest : List ℕ) (number : ℕ) → b ≡ header (S .columns) ++ (groups n ++ (coded-rows R ++ (coded-row t ++ rest))) → n ≤ room → length R < n → Fine k S R → S .columns ≡ C ++ c ∷ D → shaped C t ≡ true → Bad-cell rest (c .kind) number → Due-bank k S room b (at number k (length b - length rest))
-  -- after rows R, row t has a fault
-  row-bad : (n : ℕ) (R : Relation) (t : Tuple) (rest : List ℕ) (f : Fault) → b ≡ header (S .columns) ++ (groups n ++ (coded-rows R ++ (coded-row t ++ rest))) → n ≤ room → length R < n → Fine k S R → shaped (S .columns) t ≡ true → rows-fault by-bytes k S None 0 (R ++ t ∷ []) ≡ Some f → Due-bank k S room b f
+  -- after the cells t of a row, which are those of columns C, the cell of the next column is bad
+  cell-bad : (n : ℕ) (R : Relation) (C D : List Column) (c : Column) (t : Tuple) (rest : List ℕ) (number : ℕ) → Begun S room b n R (coded-row t ++ rest) →
+      S .columns ≡ C ++ c ∷ D → Shaped C t → Bad-cell rest (c .kind) number → Due-bank k S room b (at number k (length b - length rest))
+  -- a row is not above the one before, or not admitted
+  not-above : (n : ℕ) (R : Relation) (t : Tuple) (rest : List ℕ) → Begun S room b n R (coded-row t ++ rest) →
+      Shaped (S .columns) t → (Ascending by-bytes (R ++ t ∷ []) → ⊥) → Due-bank k S room b (at 18 k (length R))
+  not-admitted : (n : ℕ) (R : Relation) (t : Tuple) (rest : List ℕ) → Begun S room b n R (coded-row t ++ rest) →
+      Shaped (S .columns) t → Ascending by-bytes (R ++ t ∷ []) → admitted (S .parts) t ≡ false → Due-bank k S room b (at 19 k (length R))
   -- bytes are left over after the last row
-  left-over : (R : Relation) (x : ℕ) (rest : List ℕ) → b ≡ bank (S .columns) R ++ x ∷ rest → length R ≤ room → Fine k S R → Due-bank k S room b (at 23 k (length (bank (S .columns) R)))
+  left-over : (R : Relation) (x : ℕ) (rest : List ℕ) → b ≡ bank (S .columns) R ++ x ∷ rest → length R ≤ room → Rows-right by-bytes S R → Due-bank k S room b (at 23 k (length (bank (S .columns) R)))
   -- a row breaks a dependency with an earlier one
-  row-breaks : (R : Relation) (f : Fault) → b ≡ bank (S .columns) R → length R ≤ room → Fine k S R → dep-fault k (S .deps) [] 0 R ≡ Some f → Due-bank k S room b f
+  row-breaks : (R earlier later : Relation) (t : Tuple) → b ≡ bank (S .columns) R → length R ≤ room → Rows-right by-bytes S R →
+      R ≡ earlier ++ t ∷ later → Meets-deps (S .deps) earlier → (Meets-deps (S .deps) (earlier ++ t ∷ []) → ⊥) → Due-bank k S room b (at 20 k (length earlier))
 
 -- Bytes are refused exactly with the fault that is due to them.
 abbrev pub Refused-exactly : Type 0
-Refused-exactly = (k room : ℕ) (S : Sort) (b : List ℕ) (f : Fault) → are-bytes b ≡ true → room ≤ greatest → (read-bank k S room b ≡ refused f → Due-bank k S room b f) × (Due-bank k S room b f → read-bank k S room b ≡ refused f)
+Refused-exactly = (k room : ℕ) (S : Sort) (b : List ℕ) (f : Fault) → room ≤ greatest → (read-bank k S room b ≡ refused f) ↔ Due-bank k S room b f

@@ -23,6 +23,7 @@ use Rattle.model.specs.Sorts.{Column, Dependency, Meets, Part, Shaped, Sort, ad
 use Rattle.model.specs.Tables.{Lawful, Rules, Store, Stored}
 use Rattle.model.specs.TreeForm.{in-order}
 use Rattle.model.specs.Values.{Relation, Tuple, Value, filter, _∈_}
+use Rattle.laws.specs.Layers.{Admitted-below}
 use Rattle.laws.specs.Views.{Alike, One-view-alike, One-view-equivalence}
 use Rattle.laws.proofs.Cells.{admitted-append, shaped-length}
 use Rattle.laws.proofs.Dropped.{cell-put, new-kind, shaped-put}
@@ -35,7 +36,7 @@ use Rattle.laws.proofs.Refusing.{or-then-cong, sort-none}
 use Rattle.laws.proofs.Renamed.{shaped-down}
 use Rattle.laws.proofs.Revising.{All-shaped, shaped-by}
 
-admitted-lift : (C B : List Column) (P : List Part) (t : Tuple) → admitted (map (lift-part C B) P) t ≡ admitted P (project C B t)
+pub admitted-lift : (C B : List Column) (P : List Part) (t : Tuple) → admitted (map (lift-part C B) P) t ≡ admitted P (project C B t)
 admitted-lift C B [] t = refl
 admitted-lift C B (p ∷ P) t = ap (λ b. p .admits (project C B t) && b) (admitted-lift C B P t)
 
@@ -44,7 +45,7 @@ and-true true b e = refl
 and-true false b e = absurd (false≢true e)
 
 -- parts that read a dropped column admit the default
-abbrev Alone : ℕ → Tuple → List Part → Type 0
+abbrev pub Alone : ℕ → Tuple → List Part → Type 0
 Alone k t P = (p : Part) → p ∈ P → has (p .reads) k ≡ true → p .admits t ≡ true
 
 admitted-drop-at : (k : ℕ) (a : Value) (p : Part) (P : List Part) (t : Tuple) (b : Bool) → (b ≡ true → p .admits (add-at k a t) ≡ true) → admitted (drop-parts k a P) t ≡ admitted P (add-at k a t) →
@@ -52,7 +53,7 @@ admitted-drop-at : (k : ℕ) (a : Value) (p : Part) (P : List Part) (t : Tuple) 
 admitted-drop-at k a p P t true f e = e ∙ sym (and-true (p .admits (add-at k a t)) (admitted P (add-at k a t)) (f refl))
 admitted-drop-at k a p P t false f e = ap (λ b. p .admits (add-at k a t) && b) e
 
-admitted-drop : (k : ℕ) (a : Value) (P : List Part) (t : Tuple) → Alone k (add-at k a t) P → admitted (drop-parts k a P) t ≡ admitted P (add-at k a t)
+pub admitted-drop : (k : ℕ) (a : Value) (P : List Part) (t : Tuple) → Alone k (add-at k a t) P → admitted (drop-parts k a P) t ≡ admitted P (add-at k a t)
 admitted-drop k a [] t h = refl
 admitted-drop k a (p ∷ P) t h = admitted-drop-at k a p P t (has (p .reads) k) (h p (inl refl)) (admitted-drop k a P t (λ q g. h q (inr g)))
 
@@ -63,6 +64,18 @@ filter-cong p q (a ∷ l) f = ap₂ (λ b m. cond b (a ∷ m) m) (f a (inl refl)
 cond-cong : {A : Type 0} (b : Bool) (x y z : A) → (b ≡ true → x ≡ y) → cond b x z ≡ cond b y z
 cond-cong true x y z f = f refl
 cond-cong false x y z f = refl
+
+pub admitted-below : Admitted-below
+admitted-below = record {
+  by-select = λ P S t. admitted-append (P .parts) (S .parts) t;
+  by-drop = λ k a S m t s. admitted-drop k a (S .parts) t
+      (λ p g r. m .parts-alone p g r .1 (add-at k a t) (shaped-length (S .columns) (add-at k a t) (shaped-put k (S .columns) t (m .column .0) a (m .column .1) (m .column .2) s)) (cell-put k a t));
+  by-rename = λ k w S t. refl;
+  by-join = λ S T t.
+      let C = join-columns (S .columns) (T .columns) in
+      admitted-append (map (lift-part C (S .columns)) (S .parts)) (map (lift-part C (T .columns)) (T .parts)) t
+      ∙ ap₂ _&&_ (admitted-lift C (S .columns) (S .parts) t) (admitted-lift C (T .columns) (T .parts) t);
+}
 
 -- a join's rules look at columns and dependencies alone
 bare : List Column → List Dependency → Sort

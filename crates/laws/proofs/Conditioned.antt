@@ -73,13 +73,13 @@ pub comparisons-exact : Comparisons-exact
 comparisons-exact o O v w = compares-at o O v w (o v w) refl
 
 -- what a condition reads
-of-singleton : (p i : ℕ) → has (singleton p) i ≡ true → i ≡ p
+pub of-singleton : (p i : ℕ) → has (singleton p) i ≡ true → i ≡ p
 of-singleton zero zero h = refl
 of-singleton zero (suc i) h = absurd (false≢true h)
 of-singleton (suc p) zero h = absurd (false≢true h)
 of-singleton (suc p) (suc i) h = ap suc (of-singleton p i h)
 
-in-singleton : (p i : ℕ) → i ≡ p → has (singleton p) i ≡ true
+pub in-singleton : (p i : ℕ) → i ≡ p → has (singleton p) i ≡ true
 in-singleton p i e = subst (λ x. has (singleton x) i ≡ true) e (has-singleton i)
 
 operand-is : (x : Operand) (i : ℕ) → has (operand-reads x) i ≡ true → Is-operand i x

@@ -322,7 +322,7 @@ bool-same true c f g = sym (f refl)
 bool-same false true f g = g refl
 bool-same false false f g = refl
 
-length-map : {A B : Type 0} (f : A → B) (l : List A) → length (map f l) ≡ length l
+pub length-map : {A B : Type 0} (f : A → B) (l : List A) → length (map f l) ≡ length l
 length-map f [] = refl
 length-map f (a ∷ l) = ap suc (length-map f l)
 

@@ -27,3 +27,4 @@ pub mod Calling
 pub mod Shown
 pub mod Exactly
 pub mod Passing
+pub mod Opened

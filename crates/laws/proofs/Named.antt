@@ -174,7 +174,7 @@ lift-apart C B d X Y a i h k =
 pub lift-within : (C B : List Column) (X : ColumnSet) → Within (lift C B X) (all-columns C)
 lift-within C B X = map-within (λ c. has-word B X (c .word)) (λ c. true) C (λ c e. refl)
 
-some-at : (p : Column → Bool) (C : List Column) (c : Column) → c ∈ C → p c ≡ true → non-empty (map p C) ≡ true
+pub some-at : (p : Column → Bool) (C : List Column) (c : Column) → c ∈ C → p c ≡ true → non-empty (map p C) ≡ true
 some-at p [] c h e = absurd h
 some-at p (b ∷ C) c (inl q) e = or-left (p b) (non-empty (map p C)) (ap p (sym q) ∙ e)
 some-at p (b ∷ C) c (inr h) e = or-right (p b) (non-empty (map p C)) (some-at p C c h e)

@@ -34,7 +34,7 @@ pub or-none : (out q : Option Fault) → or-then out q ≡ None → (out ≡ Non
 or-none None q e = (refl, e)
 or-none (Some f) q e = absurd (not-some f e)
 
-none-or : (out q : Option Fault) → out ≡ None → q ≡ None → or-then out q ≡ None
+pub none-or : (out q : Option Fault) → out ≡ None → q ≡ None → or-then out q ≡ None
 none-or None q e g = g
 none-or (Some f) q e g = absurd (not-some f e)
 

@@ -18,6 +18,7 @@ use Rattle.model.specs.Judging.{judge}
 use Rattle.model.specs.Banks as banks
 use Rattle.model.specs.Conditions.{Condition, compared, bracket, both, equals, at-least, at-most, constant, pick, parts-of}
 use Rattle.model.specs.Selecting.{Predicate}
+use Rattle.model.specs.Opening.{select-fault, drop-fault, rename-fault, join-fault}
 use Rattle.model.specs.Piles.{Pile, source, selecting, dropping, renaming, joining, rules, View, One-view}
 use Rattle.model.specs.Ledger.{open-view, show, try, put, close-view, ok, rows, refused, memory, History, entry, ledger, State}
 use Rattle.model.specs.Promise.{Faithful, empty}
@@ -81,6 +82,13 @@ songs = record { kind = 1; sort = record { columns = title ∷ bank ∷ author �
 
 abbrev pub signed : Store
 signed = record { kind = 1; sort = record { columns = title ∷ bank ∷ author ∷ []; deps = from-to a b ∷ from-to b c ∷ []; parts = [] }; room = 128 }
+
+-- (title, bank, author) with title -> bank author; and the titles of the bank Bass
+abbrev pub full : Sort
+full = record { columns = title ∷ bank ∷ author ∷ []; deps = from-to a (false ∷ true ∷ true ∷ []) ∷ []; parts = [] }
+
+abbrev pub basses : Sort
+basses = record { columns = title ∷ bank ∷ []; deps = from-to a b ∷ []; parts = pick 1 (Bass ∷ []) ∷ [] }
 
 -- the rules of a pile on tables; conditions that a column has a value, picked and written
 abbrev pub on : List Store → Pile → Rules
@@ -152,6 +160,9 @@ pub record Examples : Type 0 where
   pub unknown : lookup (title ∷ bank ∷ []) (codes "author") ≡ None
   -- drop bank default Pads on Grit Bass: putting Glass, Grit stores Glass Pads, Grit Bass
   pub dropped : on T₁ unbanked .puts ((Glass ∷ []) ∷ (Grit ∷ []) ∷ []) (((Grit ∷ Bass ∷ []) ∷ []) ∷ []) ≡ ((Glass ∷ Pads ∷ []) ∷ (Grit ∷ Bass ∷ []) ∷ []) ∷ []
+  -- there the sort loses the dependency whose right set empties; and a part that reads the dropped column
+  pub dropped-deps : on T₁ unbanked .sort .deps ≡ []
+  pub dropped-parts : on (record { kind = 1; sort = basses; room = 2 } ∷ []) (dropping 1 Bass (source 0)) .sort .parts ≡ []
   -- the join shows Glass Pads Ann; putting nothing leaves Grit Bass and Pads Ann
   pub joined : on T₂ credits .shows I₂ ≡ (Glass ∷ Pads ∷ Ann ∷ []) ∷ []
   pub emptied : on T₂ credits .puts [] I₂ ≡ ((Grit ∷ Bass ∷ []) ∷ []) ∷ ((Pads ∷ Ann ∷ []) ∷ []) ∷ []
@@ -179,6 +190,18 @@ pub record Examples : Type 0 where
   pub renamed-shows : on T₁ names .shows (((Glass ∷ Pads ∷ []) ∷ (Grit ∷ Bass ∷ []) ∷ []) ∷ []) ≡ (Glass ∷ Pads ∷ []) ∷ []
   pub renamed-puts : on T₁ names .puts ((Saw ∷ Pads ∷ []) ∷ []) (((Glass ∷ Pads ∷ []) ∷ (Grit ∷ Bass ∷ []) ∷ []) ∷ []) ≡ ((Grit ∷ Bass ∷ []) ∷ (Saw ∷ Pads ∷ []) ∷ []) ∷ []
   pub renamed-refuses : judge by-bytes (on T₁ names) ((Saw ∷ Bass ∷ []) ∷ []) ([] ∷ []) ≡ fault 19 5 0
+  -- layers that do not open, at place 7 of a definition
+  pub reads-an-output : select-fault 7 (picked 0 Saw) basses ≡ fault 11 3 7
+  pub no-such-column : drop-fault 7 (codes "author") Pads (titles 2 .sort) ≡ fault 6 4 7
+  pub determining-column : drop-fault 7 (codes "title") Pads (titles 2 .sort) ≡ fault 12 4 7
+  pub unlike-default : drop-fault 7 (codes "bank") (num 1) (titles 2 .sort) ≡ fault 7 4 7
+  pub unadmitted-default : drop-fault 7 (codes "bank") Pads basses ≡ fault 13 4 7
+  pub admitted-default : drop-fault 7 (codes "bank") Bass basses ≡ None
+  pub keyword : rename-fault 7 (codes "title") (codes "select") (titles 2 .sort) ≡ fault 3 5 7
+  pub used-word : rename-fault 7 (codes "title") (codes "bank") (titles 2 .sort) ≡ fault 5 5 7
+  pub undetermined : join-fault 7 (authors .sort) (titles 2 .sort) ≡ fault 14 6 7
+  pub no-tree : join-fault 7 full (authors .sort) ≡ fault 15 6 7
+  pub opens : join-fault 7 (titles 2 .sort) (authors .sort) ≡ None
   -- faults of rows offered through the Pads view and to the table
   pub narrow : judge by-bytes (on T₁ pads) ((Glass ∷ []) ∷ []) ([] ∷ []) ≡ fault 17 3 0
   pub number-for-text : judge by-bytes (on T₁ pads) ((Glass ∷ Pads ∷ []) ∷ (Grit ∷ num 1 ∷ []) ∷ []) ([] ∷ []) ≡ fault 17 3 1

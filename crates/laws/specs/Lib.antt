@@ -9,3 +9,4 @@ pub mod Views
 pub mod Promise
 pub mod Examples
 pub mod Puts
+pub mod Opening

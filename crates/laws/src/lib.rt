@@ -4,7 +4,8 @@ ghost use Rattle.laws.specs.Closures.{Armstrong-sound, Closure-derives, Closur
 ghost use Rattle.laws.specs.Conditions.{Comparisons-exact, Part-equal, Parts-whole, Pick-exact, Reads-exact};
 ghost use Rattle.laws.specs.Examples.{Examples, One-view-shown, Views-shown};
 ghost use Rattle.laws.specs.Faults.{Faults-exact, Faults-pass-up, Judge-due, Show-exact};
-ghost use Rattle.laws.specs.Layers.{Drop-lawful, Join-lawful, Rename-lawful, Select-lawful, Stored-lawful};
+ghost use Rattle.laws.specs.Layers.{Admitted-below, Drop-lawful, Join-lawful, Rename-lawful, Select-lawful, Stored-lawful};
+ghost use Rattle.laws.specs.Opening.{Opening-exact};
 ghost use Rattle.laws.specs.Orders.{By-bytes-total, Equality-test, Relation-exact, Relation-same, Relation-unique, Tuples-total};
 ghost use Rattle.laws.specs.Promise.{Empty-begins, Every-point, Promise-kept, Recording};
 ghost use Rattle.laws.specs.Puts.{Drop-exact, Join-exact, Pairs-ascending, Select-exact};
@@ -127,6 +128,20 @@ pub fn promise_stands() -> u8
 /// The worked examples, computed; views that they speak of; and openings that are of one view.
 pub fn examples_stand() -> u8
     ensures { λ _. ⌜ Examples × Views-shown × One-view-shown ⌝ }
+{
+    0
+}
+
+/// A layer opens exactly when its premises hold, and the limits.
+pub fn opening_stands() -> u8
+    ensures { λ _. ⌜ Opening-exact ⌝ }
+{
+    0
+}
+
+/// Whether a layer's sort admits a tuple can be asked of the sorts below.
+pub fn layer_parts_stand() -> u8
+    ensures { λ _. ⌜ Admitted-below ⌝ }
 {
     0
 }
