@@ -33,15 +33,13 @@ fail() {
     exit 1
 }
 
-# lower LINES...: the program with these lines in its main function, lowered; the errors are in $work/errors
+# lower LINES...: a function with these lines, lowered; the errors are in $work/errors
 lower() {
     {
-        printf '%s\n' 'use cells::Kind;' 'use sorts::Description;' 'use sorts::NewColumn;' 'use sorts::Sort;' ''
-        printf '%s\n' 'fn main(rt: LibcRuntime) {' '    let heap = rt.alloc();' '    let mut table = Description::new(heap);'
-        printf '%s\n' '    let title = NewColumn { word: b"title", kind: Kind::Text };'
-        printf '%s\n' '    let left: [&[u8]; 1] = [b"title"];' '    let right: [&[u8]; 1] = [b"bank"];'
-        printf '    %s\n' "$@"
-        printf '}\n'
+        printf 'use %s;\n' conditions::Written sorts::Description sorts::NewColumn sorts::Sort std::alloc::Global
+        printf '%s\n' '' "fn turn(heap: Global, title: NewColumn<'_>, condition: Written) {"
+        printf '    %s\n' 'let mut table = Description::new(heap);' 'let left: [&[u8]; 1] = [b"title"];' 'let right: [&[u8]; 1] = [b"bank"];' "$@"
+        printf '%s\n' '}' '' 'fn main() {}'
     } >"$work/main.rt"
     "$front" "$work/main.rt" "${words[@]}" >"$work/mir" 2>"$work/errors"
 }
@@ -66,15 +64,17 @@ arguments() {
     case $1 in
     add_column) echo '(heap, title)' ;;
     add_dependency) echo '(heap, &left, &right)' ;;
+    add_condition) echo '(heap, condition)' ;;
     *) echo '()' ;;
     esac
 }
 
 compiles 'in turn' \
-    'let _ = table.add_column(heap, title);' 'let _ = table.add_dependency(heap, &left, &right);' 'let sort = table.seal();' 'let _ = sort.columns();'
+    'let _ = table.add_column(heap, title);' 'let _ = table.add_dependency(heap, &left, &right);' \
+    'let _ = table.add_condition(heap, condition);' 'let sort = table.seal();' 'let _ = sort.columns();'
 
 calls=$(grep -rhoE 'pub fn add_[a-z_]+' crates/sorts/src | sed 's/pub fn //' | sort -u)
-for call in add_column add_dependency; do
+for call in add_column add_dependency add_condition; do
     case " $(echo $calls) " in *" $call "*) ;; *) echo "out of turn: crate sorts has no $call" >&2; exit 1 ;; esac
 done
 for call in $calls; do
