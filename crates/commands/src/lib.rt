@@ -3,11 +3,11 @@ pub mod numbers;
 pub mod parsing;
 pub mod tokens;
 
-pub use parsing::parse;
 pub use parsing::Command;
 pub use parsing::Heading;
 pub use parsing::Kind;
 pub use parsing::Line;
 pub use parsing::Storage;
-pub use tokens::split_line;
+pub use parsing::parse;
 pub use tokens::Token;
+pub use tokens::split_line;

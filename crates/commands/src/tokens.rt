@@ -1,11 +1,13 @@
 // A line cut into tokens, which borrow it.
 ghost use mathlib.Core.Path.{_≡_};
-ghost use mathlib.Core.List.{map};
+ghost use mathlib.Core.Bool.{false};
+ghost use mathlib.Core.List.{[], map};
 ghost use Rattle.std.specs.Of.Vec.{vec-items};
 ghost use Rattle.std.specs.Vec.{made};
 ghost use Rattle.std.specs.Options.{mapped};
-ghost use Rattle.commands.specs.Lists.{front, behind};
-ghost use Rattle.commands.specs.Lines.{within, tokens-of, words-of, lexeme, bounded, command-word, arguments-of, first-line, later-lines};
+ghost use Rattle.commands.specs.Lists.{front, behind, each};
+ghost use Rattle.commands.specs.Lines.{within, bounded, is-quoted, lexeme, Leads, read, in-quotes, tokens-of, plain-word, texts, words-of};
+ghost use Rattle.commands.specs.Lines.{command-word, arguments-of, first-line, later-lines};
 use std::alloc::AllocError;
 use std::alloc::Global;
 
@@ -80,6 +82,8 @@ fn ends_token(text: &[u8]) -> bool
 
 // The token that the text begins with, and what stands behind it.
 fn first_token(text: &[u8]) -> Option<(Token<'_>, &[u8])>
+    requires { ⌜ bounded (now text) ≡ false ⌝ }
+    ensures { λ r. ⌜ Leads (tokens-of (now (text .entry))) (now (text .entry)) r ⌝ }
 {
     match text {
         [b'"', inner @ ..] => quoted_token(inner),
@@ -88,22 +92,34 @@ fn first_token(text: &[u8]) -> Option<(Token<'_>, &[u8])>
 }
 
 fn quoted_token(inner: &[u8]) -> Option<(Token<'_>, &[u8])>
+    ensures { λ r. ⌜ Leads (read (in-quotes []) (now (inner .entry))) (now (inner .entry)) r ⌝ }
 {
     let (held, after) = split_run(Class::Held, inner);
     let [_, rest @ ..] = after else {
         return None;
     };
-    if ends_token(rest) { Some((Token::Quoted(held), rest)) } else { None }
+    if ends_token(rest) {
+        Some((Token::Quoted(held), rest))
+    } else {
+        None
+    }
 }
 
 fn plain_token(text: &[u8]) -> Option<(Token<'_>, &[u8])>
+    requires { ⌜ is-quoted (now text) ≡ false ⌝ ∗ ⌜ bounded (now text) ≡ false ⌝ }
+    ensures { λ r. ⌜ Leads (tokens-of (now (text .entry))) (now (text .entry)) r ⌝ }
 {
     let (word, rest) = split_run(Class::Sign, text);
-    if !word.is_empty() && ends_token(rest) { Some((Token::Plain(word), rest)) } else { None }
+    if !word.is_empty() && ends_token(rest) {
+        Some((Token::Plain(word), rest))
+    } else {
+        None
+    }
 }
 
 // The tokens of a text, or none where it has malformed ones.
 pub fn tokens<'a>(heap: Global, text: &'a [u8]) -> Result<Option<Vec<Token<'a>>>, AllocError>
+    ensures { λ r. ⌜ made r (λ o. mapped (λ v. map lexeme (vec-items v)) o ≡ tokens-of (now (text .entry))) ⌝ }
 {
     let mut all = Vec::new(heap);
     let mut rest = text;
@@ -121,18 +137,26 @@ pub fn tokens<'a>(heap: Global, text: &'a [u8]) -> Result<Option<Vec<Token<'a>>>
     Ok(Some(all))
 }
 
-// The tokens of a text, where all are plain.
-pub fn words<'a>(heap: Global, text: &'a [u8]) -> Result<Option<Vec<&'a [u8]>>, AllocError>
+// The bytes of tokens that are all plain.
+fn plain_words<'a>(heap: Global, tokens: &[Token<'a>]) -> Result<Option<Vec<&'a [u8]>>, AllocError>
+    ensures { λ r. ⌜ made r (λ o. mapped (λ v. texts (vec-items v)) o ≡ each plain-word (map lexeme (now (tokens .entry)))) ⌝ }
 {
-    let Some(all) = tokens(heap, text)? else {
-        return Ok(None);
-    };
     let mut words = Vec::new(heap);
-    for token in all {
-        let Token::Plain(word) = token else {
+    for token in tokens {
+        let Token::Plain(word) = *token else {
             return Ok(None);
         };
         words.push(word)?;
     }
     Ok(Some(words))
+}
+
+// The tokens of a text, where all are plain.
+pub fn words<'a>(heap: Global, text: &'a [u8]) -> Result<Option<Vec<&'a [u8]>>, AllocError>
+    ensures { λ r. ⌜ made r (λ o. mapped (λ v. texts (vec-items v)) o ≡ words-of (now (text .entry))) ⌝ }
+{
+    match tokens(heap, text)? {
+        Some(all) => plain_words(heap, all.as_slice()),
+        None => Ok(None),
+    }
 }

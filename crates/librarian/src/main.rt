@@ -1,7 +1,7 @@
 // The librarian: reads a session script and prints what comes of each line.
-use commands::parse;
 use commands::Command;
 use commands::Line;
+use commands::parse;
 use std::env;
 use std::fs;
 use std::io;
