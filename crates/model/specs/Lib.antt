@@ -9,3 +9,16 @@ pub mod Faults
 pub mod Tables
 pub mod Decisions
 pub mod Judging
+pub mod Banks
+pub mod Facts
+pub mod Conditions
+pub mod Revision
+pub mod Selecting
+pub mod Dropping
+pub mod Renaming
+pub mod Projecting
+pub mod Joining
+pub mod Refusals
+pub mod Piles
+pub mod Ledger
+pub mod Promise

@@ -1,0 +1,4 @@
+pub mod Held
+pub mod Numbered
+pub mod Answering
+pub mod Worded

@@ -1,0 +1,7 @@
+//! The kinds of columns.
+
+#[derive(Clone, Copy, PartialEq, Eq, Debug)]
+pub enum Kind {
+    Num,
+    Text,
+}

@@ -1,0 +1,4 @@
+pub mod Places
+pub mod Folds
+pub mod Trees
+pub mod Lookups

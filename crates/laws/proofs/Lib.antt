@@ -1,0 +1,11 @@
+pub mod Members
+pub mod Cells
+pub mod Orders
+pub mod Turns
+pub mod Revising
+pub mod Unique
+pub mod Closing
+pub mod Armstrong
+pub mod Testing
+pub mod Named
+pub mod Looking

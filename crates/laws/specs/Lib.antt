@@ -1,0 +1,9 @@
+pub mod Orders
+pub mod Sorts
+pub mod Closures
+pub mod Revision
+pub mod Layers
+pub mod Conditions
+pub mod Faults
+pub mod Views
+pub mod Promise
