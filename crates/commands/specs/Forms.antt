@@ -10,8 +10,7 @@ use Rattle.std.specs.Options.{mapped}
 use Rattle.std.specs.Of.Vec.{vec-items}
 use Rattle.model.specs.Values.{any, tail, same-bytes}
 use Rattle.model.specs.Sorts as model
-use Rattle.commands.specs.declared.parsing.Kind.{Kind}
-use Rattle.commands.specs.declared.parsing.Kind.the-variants.{Num, Text}
+use Rattle.cells.specs.Held.{kind-of}
 use Rattle.commands.specs.declared.parsing.Storage.{Storage}
 use Rattle.commands.specs.declared.parsing.Storage.the-variants.{Slots, Image}
 use Rattle.commands.specs.declared.parsing.Heading.{Heading}
@@ -190,10 +189,6 @@ abbrev pub meaning : List ℕ → Meaning
 meaning l = cond (is-skipped l) skipped (or-bad (command-of l))
 
 -- the same of the program's values
-abbrev pub kind-of : Kind → model.Kind
-kind-of Num = model.numbers
-kind-of Text = model.texts
-
 abbrev pub column-of : Heading → model.Column
 column-of h = record { word = h .word .now; kind = kind-of (h .kind) }
 

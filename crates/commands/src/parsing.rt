@@ -5,26 +5,22 @@ ghost use lib.ListN.{length};
 ghost use Rattle.std.specs.Of.Vec.{vec-items};
 ghost use Rattle.std.specs.Vec.{made};
 ghost use Rattle.std.specs.Options.{mapped};
+ghost use Rattle.cells.specs.Held.{kind-of};
 ghost use Rattle.model.specs.Values.{every, same-bytes};
 ghost use Rattle.commands.specs.Lists.{each, front};
 ghost use Rattle.commands.specs.Spelling.{hex-pair};
 ghost use Rattle.commands.specs.Lines.{is-comment, is-space, texts};
-ghost use Rattle.commands.specs.Forms.{kind-said, kind-of, storage-said, heading-said, column-of, headings-said};
+ghost use Rattle.commands.specs.Forms.{kind-said, storage-said, heading-said, column-of, headings-said};
 ghost use Rattle.commands.specs.Forms.{table-said, no-arrow, dep-said, load-said, column-said, bank-said};
 ghost use Rattle.commands.specs.Forms.{rows-said, read-said, write-said, count-said, try-said, put-said};
 ghost use Rattle.commands.specs.Forms.{spelling, verb-of, says, asked, none-after, meaning, meant};
+use cells::Kind;
 use crate::numbers::hex_pair;
 use crate::numbers::number;
 use crate::tokens::split_command;
 use crate::tokens::words;
 use std::alloc::AllocError;
 use std::alloc::Global;
-
-#[derive(Clone, Copy)]
-pub enum Kind {
-    Num,
-    Text,
-}
 
 // Where a table is to be stored: in a number of slots, or in an image of a number of bytes.
 #[derive(Clone, Copy)]
