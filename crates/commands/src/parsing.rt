@@ -14,11 +14,11 @@ ghost use Rattle.commands.specs.Forms.{kind-said, storage-said, heading-said, 
 ghost use Rattle.commands.specs.Forms.{table-said, no-arrow, dep-said, load-said, column-said, bank-said};
 ghost use Rattle.commands.specs.Forms.{rows-said, read-said, write-said, count-said, try-said, put-said};
 ghost use Rattle.commands.specs.Forms.{spelling, verb-of, says, asked, none-after, meaning, meant};
-use cells::Kind;
 use crate::numbers::hex_pair;
 use crate::numbers::number;
 use crate::tokens::split_command;
 use crate::tokens::words;
+use cells::Kind;
 use std::alloc::AllocError;
 use std::alloc::Global;
 

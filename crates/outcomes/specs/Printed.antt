@@ -55,7 +55,7 @@ abbrev pub bank-text : List ℕ → List ℕ
 bank-text l = codes "bank " ++ (decimal (length l) ++ (hex-text l ++ newline))
 
 abbrev pub fault-text : Fault → List ℕ
-fault-text f = codes "refused " ++ (decimal (f .number) ++ (codes " kind " ++ (decimal (f .kind) ++ (codes " place " ++ decimal (f .place)))))
+fault-text f = codes "refused " ++ (decimal (f .number) ++ (codes " kind " ++ (decimal (f .kind) ++ (codes " place " ++ (decimal (f .place) ++ newline)))))
 
 -- the commands, a line each, for a person
 abbrev pub help-text : List ℕ
@@ -84,7 +84,7 @@ text-of (outcome.Sealed room) = codes "sealed room " ++ (decimal room ++ newline
 text-of (outcome.Bank bytes) = bank-text (vec-items bytes)
 text-of (outcome.Rows rows) = listing (tuples (vec-items rows))
 text-of (outcome.Wrote size) = codes "wrote " ++ (decimal size ++ newline)
-text-of (outcome.Refused f) = fault-text (told f) ++ newline
+text-of (outcome.Refused f) = fault-text (told f)
 text-of outcome.BadLine = codes "bad line" ++ newline
 text-of outcome.OutOfTurn = codes "out of turn" ++ newline
 text-of outcome.NoTable = codes "no table" ++ newline

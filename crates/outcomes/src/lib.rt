@@ -2,6 +2,8 @@
 ghost use mathlib.Core.Path.{_≡_};
 ghost use mathlib.Core.List.{_++_, map};
 ghost use Prim.Native.Nat.{_<_};
+ghost use lib.Chars.{codes};
+ghost use Rattle.std.specs.Written.{decimal};
 ghost use Rattle.std.specs.Joined.{joined};
 ghost use Rattle.std.specs.Of.String.{string-bytes};
 ghost use Rattle.std.specs.Vec.{made};
@@ -36,16 +38,21 @@ fn hex_digit(n: u8) -> char
     requires { ⌜ n < 16 ⌝ }
     ensures { λ r. ⌜ r ≡ hex-digit n ⌝ }
 {
-    if n < 10 { char::from(b'0' + n) } else { char::from(b'A' + (n - 10)) }
+    if n < 10 {
+        char::from(b'0' + n)
+    } else {
+        char::from(b'A' + (n - 10))
+    }
 }
 
 // Writes a byte as a space and two hexadecimal digits.
 fn push_pair(out: &mut String, b: u8) -> Result<(), AllocError>
     ensures { λ r. ⌜ made r (λ _. string-bytes (now (out .exit)) ≡ string-bytes (now (out .entry)) ++ hex-pair b) ⌝ }
 {
-    out.push(' ')?;
+    out.push_str(" ")?;
     out.push(hex_digit(b / 16))?;
-    out.push(hex_digit(b % 16))
+    out.push(hex_digit(b % 16))?;
+    Ok(())
 }
 
 fn push_hex(out: &mut String, bytes: &[u8]) -> Result<(), AllocError>
@@ -72,8 +79,9 @@ fn push_cell(out: &mut String, heap: Global, cell: &Cell) -> Result<(), AllocErr
     ensures { λ r. ⌜ made r (λ _. string-bytes (now (out .exit)) ≡ string-bytes (now (out .entry)) ++ next-cell-text (value (now (cell .entry)))) ⌝ }
 {
     let text = cell_text(heap, cell)?;
-    out.push(' ')?;
-    out.push_str(text.as_str())
+    out.push_str(" ")?;
+    out.push_str(text.as_str())?;
+    Ok(())
 }
 
 fn push_cells(out: &mut String, heap: Global, cells: &[Cell]) -> Result<(), AllocError>
@@ -104,7 +112,8 @@ fn push_row(out: &mut String, heap: Global, row: &Row) -> Result<(), AllocError>
 {
     let text = row_text(heap, row)?;
     out.push_str(text.as_str())?;
-    out.push('\n')
+    out.push_str("\n")?;
+    Ok(())
 }
 
 fn push_rows(out: &mut String, heap: Global, rows: &[Row]) -> Result<(), AllocError>
@@ -122,7 +131,7 @@ fn bank_text(heap: Global, bytes: &[u8]) -> Result<String, AllocError>
     let n = bytes.len();
     let mut text = format!(heap, "bank {n}")?;
     push_hex(&mut text, bytes)?;
-    text.push('\n')?;
+    text.push_str("\n")?;
     Ok(text)
 }
 
@@ -136,12 +145,19 @@ fn rows_text(heap: Global, rows: &[Row]) -> Result<String, AllocError>
 }
 
 fn fault_text(heap: Global, fault: Fault) -> Result<String, AllocError>
-    ensures { λ r. ⌜ made r (λ s. string-bytes s ≡ fault-text (told fault) ++ newline) ⌝ }
+    ensures { λ r. ⌜ made r (λ s. string-bytes s ≡ fault-text (told fault)) ⌝ }
 {
     let number = fault.cause.number();
     let kind = fault.kind;
     let place = fault.place;
-    format!(heap, "refused {number} kind {kind} place {place}\n")
+    let text = format!(heap, "refused {number} kind {kind} place {place}\n")?;
+    Ok(text)
+}
+
+fn room_text(heap: Global, room: usize) -> Result<String, AllocError>
+    ensures { λ r. ⌜ made r (λ s. string-bytes s ≡ codes "sealed room " ++ (decimal room ++ newline)) ⌝ }
+{
+    format!(heap, "sealed room {room}\n")
 }
 
 // The commands, a line each.
@@ -169,7 +185,7 @@ impl Outcome {
             Outcome::Help => String::from_str(heap, HELP),
             Outcome::Accepted => String::from_str(heap, "ok\n"),
             Outcome::Fresh => String::from_str(heap, "fresh\n"),
-            Outcome::Sealed(room) => format!(heap, "sealed room {room}\n"),
+            Outcome::Sealed(room) => room_text(heap, *room),
             Outcome::Bank(bytes) => bank_text(heap, bytes.as_slice()),
             Outcome::Rows(rows) => rows_text(heap, rows.as_slice()),
             Outcome::Wrote(size) => format!(heap, "wrote {size}\n"),

@@ -1,5 +1,5 @@
 use mathlib.Core.Path.{_≡_}
-use mathlib.Core.List.{_++_, map}
+use mathlib.Core.List.{_++_}
 use lib.ListN.{take}
 use Rattle.std.specs.Joined.{joined}
 use Rattle.std.specs.Of.String.{string-bytes}
@@ -8,4 +8,4 @@ use Rattle.outcomes.specs.Printed.{next-cell-text}
 use Rattle.outcomes.proofs.push_cells.Given as given
 
 abbrev pub Inv-loop-cell : given.InvT-loop-cell
-Inv-loop-cell l = string-bytes (l .out) ≡ string-bytes (l .entry .out) ++ joined next-cell-text (map value (take (l .cell-index) (l .cells)))
+Inv-loop-cell l = string-bytes (l .out) ≡ string-bytes (l .entry .out) ++ joined (λ x. next-cell-text (value x)) (take (l .cell-index) (l .cells))
