@@ -2,6 +2,8 @@
 ghost use mathlib.Core.Path.{_≡_};
 ghost use mathlib.Core.Bool.{false};
 ghost use mathlib.Core.List.{[], map};
+ghost use Prim.Native.Nat.{_-_, _≤_};
+ghost use lib.ListN.{length};
 ghost use Rattle.std.specs.Of.Vec.{vec-items};
 ghost use Rattle.std.specs.Vec.{made};
 ghost use Rattle.std.specs.Options.{mapped};
@@ -62,7 +64,9 @@ pub fn split_command(line: &[u8]) -> (&[u8], &[u8])
 
 // The first line of a text, and what stands behind its end.
 pub fn split_line(text: &[u8]) -> (&[u8], &[u8])
-    ensures { λ r. ⌜ now (r .0) ≡ first-line (now (text .entry)) ⌝ ∗ ⌜ now (r .1) ≡ later-lines (now (text .entry)) ⌝ }
+    ensures line { λ r. ⌜ now (r .0) ≡ first-line (now (text .entry)) ⌝ }
+    ensures rest { λ r. ⌜ now (r .1) ≡ later-lines (now (text .entry)) ⌝ }
+    ensures shorter { λ r. ⌜ length (now (r .1)) ≤ length (now (text .entry)) - 1 ⌝ }
 {
     let (line, rest) = split_run(Class::Line, text);
     match rest {

@@ -1,7 +1,13 @@
-// The librarian: reads a session script and prints what comes of each line.
+//! The librarian: reads a session script and prints what comes of each line.
+ghost use Prim.Native.Nat.{_≤_};
+ghost use lib.ListN.{length};
+ghost use Rattle.std.specs.Vec.{made};
 use commands::Command;
 use commands::Line;
 use commands::parse;
+use commands::split_line;
+use outcomes::Outcome;
+use std::alloc::AllocError;
 use std::env;
 use std::fs;
 use std::io;
@@ -22,19 +28,85 @@ fn script(rt: &LibcRuntime) -> io::Result<Vec<u8>> {
     }
 }
 
-fn run(rt: &LibcRuntime, script: &[u8]) -> io::Result<()> {
+// What stands behind the next lines.
+fn past_lines(text: &[u8], count: u32) -> &[u8]
+    ensures { λ r. ⌜ length (now r) ≤ length (now (text .entry)) ⌝ }
+{
+    let mut rest = text;
+    for _ in 0..count {
+        let (_, after) = split_line(rest);
+        rest = after;
+    }
+    rest
+}
+
+fn print(rt: &LibcRuntime, outcome: Outcome) -> io::Result<()> {
+    match outcome.text(rt.alloc()) {
+        Ok(text) => rt.stdout().write_all(text.as_bytes()),
+        Err(AllocError) => rt.stdout().write_all(b"no memory\n"),
+    }
+}
+
+// The bytes of a file, if it can be read.
+fn read_file(rt: &LibcRuntime, path: &[u8]) -> Option<Vec<u8>> {
+    let Ok(path) = std::str::from_utf8(path) else {
+        return None;
+    };
+    fs::read(rt, path).ok()
+}
+
+// Writes a file whole, or leaves an old one as it was: the bytes go to a file beside it, which then takes its name.
+fn write_file(rt: &LibcRuntime, path: &str, bytes: &[u8]) -> io::Result<()> {
     let heap = rt.alloc();
+    let part = format!(heap, "{path}.part")?;
+    let written = fs::write(rt, part.as_str(), bytes);
+    match written {
+        Ok(()) => fs::rename(rt, part.as_str(), path),
+        Err(error) => {
+            let _ = fs::remove_file(rt, part.as_str());
+            Err(error)
+        }
+    }
+}
+
+fn perform(_rt: &LibcRuntime, command: Command<'_>) -> Outcome {
+    match command {
+        Command::Help => Outcome::Help,
+        Command::Fresh => Outcome::Fresh,
+        _ => Outcome::BadLine,
+    }
+}
+
+// Runs a line, and gives back what is left of the lines behind it.
+fn step<'a>(rt: &LibcRuntime, line: &[u8], behind: &'a [u8]) -> io::Result<&'a [u8]>
+    ensures { λ r. ⌜ made r (λ rest. length (now rest) ≤ length (now (behind .entry))) ⌝ }
+{
+    match parse(rt.alloc(), line) {
+        Ok(Line::Skipped) => Ok(behind),
+        Ok(Line::Bad) => {
+            print(rt, Outcome::BadLine)?;
+            Ok(behind)
+        }
+        Ok(Line::Said(command)) => {
+            let rest = match &command {
+                Command::Try { count } | Command::Put { count } => past_lines(behind, *count),
+                _ => behind,
+            };
+            print(rt, perform(rt, command))?;
+            Ok(rest)
+        }
+        Err(AllocError) => {
+            print(rt, Outcome::NoMemory)?;
+            Ok(behind)
+        }
+    }
+}
+
+fn run(rt: &LibcRuntime, script: &[u8]) -> io::Result<()> {
     let mut rest = script;
     while !rest.is_empty() {
-        let (line, after) = commands::split_line(rest);
-        rest = after;
-        let answer: &[u8] = match parse(heap, line)? {
-            Line::Skipped => b"",
-            Line::Bad => b"bad line\n",
-            Line::Said(Command::Fresh) => b"fresh\n",
-            Line::Said(_) => b"bad line\n",
-        };
-        rt.stdout().write_all(answer)?;
+        let (line, behind) = split_line(rest);
+        rest = step(rt, line, behind)?;
     }
     Ok(())
 }
