@@ -1,14 +1,14 @@
 -- Tests of equality decide equality, and the derived equality of cells and rows is that of their values.
 use Prim.Native.Nat.{ℕ, suc}
-use mathlib.Core.Path.{_≡_, refl, sym, _∙_, ap}
+use mathlib.Core.Path.{_≡_, refl, sym, _∙_, ap, subst}
 use mathlib.Core.List.{List, [], _∷_, map}
 use mathlib.Core.Logic.{_⊎_, inl, inr}
-use mathlib.Core.Bool.{Bool, true, false, _&&_}
+use mathlib.Core.Bool.{Bool, true, false, true≢false, _&&_}
 use lib.Dec.{eqb}
 use lib.ListN.{length}
 use borrow.Author.Needs.{needs}
 use Rattle.std.proofs.shelf.Equals.{Compares, compares-decides, matches-decides}
-use Rattle.std.proofs.shelf.Tests.{and-from, and-left, and-right, eqb-true, eq-eqb}
+use Rattle.std.proofs.shelf.Tests.{and-from, and-parts, and-left, and-right, eqb-true, eq-eqb}
 use Rattle.std.specs.Keys.{one-answer}
 use Rattle.std.specs.Lexical.{Matches, Same, Apart}
 use Rattle.std.specs.Orderings.{Decides}
@@ -23,6 +23,33 @@ use Rattle.cells.specs.contracts.values.CellPartialEq.the-impl.{ghosts}
 
 pub same-bytes-decides : (xs ys : List ℕ) → Decides (same-bytes xs ys) (xs ≡ ys)
 same-bytes-decides = compares-decides same-bytes (search needs)
+
+module _ {A : Type 0} (e : A → A → Bool) (decides : (a b : A) → Decides (e a b) (a ≡ b)) where
+  list-true : (xs ys : List A) → same-list e xs ys ≡ true → xs ≡ ys
+  list-true [] [] h = refl
+  list-true [] (y ∷ ys) h = absurd (true≢false (sym h))
+  list-true (x ∷ xs) [] h = absurd (true≢false (sym h))
+  list-true (x ∷ xs) (y ∷ ys) h =
+      let parts = and-parts (e x y) (same-list e xs ys) h in
+      let head = decides x y .0 (parts .0) in
+      let rest = list-true xs ys (parts .1) in
+      cc
+
+  list-itself : (xs : List A) → same-list e xs xs ≡ true
+  list-itself [] = refl
+  list-itself (x ∷ xs) = and-from (e x x) (same-list e xs xs) (decides x x .1 refl) (list-itself xs)
+
+  pub same-list-decides : (xs ys : List A) → Decides (same-list e xs ys) (xs ≡ ys)
+  same-list-decides xs ys = (list-true xs ys, λ p. subst (λ l. same-list e xs l ≡ true) p (list-itself xs))
+
+pub same-value-decides : (v w : Value) → Decides (same-value v w) (v ≡ w)
+same-value-decides (num m) (num n) = (λ h. ap num (eqb-true m n h), λ p. eq-eqb m n (cc))
+same-value-decides (num m) (text t) = (λ h. absurd (true≢false (sym h)), λ p. cc)
+same-value-decides (text s) (num n) = (λ h. absurd (true≢false (sym h)), λ p. cc)
+same-value-decides (text s) (text t) = (λ h. ap text (same-bytes-decides s t .0 h), λ p. same-bytes-decides s t .1 (cc))
+
+pub same-tuple-decides : (s t : Tuple) → Decides (same-tuple s t) (s ≡ t)
+same-tuple-decides = same-list-decides same-value same-value-decides
 
 -- what `==` on slices of bytes answers
 pub matches-bytes : (xs ys : List ℕ) (r : Bool) → Matches (λ (a b : ℕ) (t : Bool). Decides t (a ≡ b)) xs ys r → r ≡ same-bytes xs ys

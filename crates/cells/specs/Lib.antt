@@ -2,3 +2,4 @@ pub mod Held
 pub mod Numbered
 pub mod Answering
 pub mod Worded
+pub mod Printed

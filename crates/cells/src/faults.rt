@@ -1,12 +1,14 @@
 //! Faults, and the refusals that carry them.
 ghost use mathlib.Core.Path.{_≡_};
+ghost use Rattle.std.specs.Orderings.{Decides};
 ghost use Rattle.cells.specs.Numbered.{number};
+ghost use Rattle.cells.specs.declared.faults.Cause.{Cause};
 ghost use Rattle.cells.specs.declared.faults.Refusal.the-variants.{Memory};
 use std::alloc::AllocError;
 use std::alloc::Refused;
 
 // What a call is refused for. Each cause has its number.
-#[derive(Clone, Copy, PartialEq, Eq, Debug)]
+#[derive(Clone, Copy, Eq, Debug)]
 pub enum Cause {
     // a sign that the grammar lacks there
     Grammar = 1,
@@ -59,10 +61,20 @@ pub enum Cause {
 }
 
 impl Cause {
+    // The number of the cause. No other cause has it.
     pub fn number(self) -> u8
-        ensures { λ r. ⌜ r ≡ number self ⌝ }
+        ensures value { λ r. ⌜ r ≡ number self ⌝ }
+        ensures apart { λ r. ⌜ ((other : Cause) → number other ≡ r → other ≡ self) ⌝ }
     {
         self as u8
+    }
+}
+
+pub impl PartialEq<Cause> for Cause as CausePartialEq {
+    ghost equals = { λ x y r. Decides r (x ≡ y) };
+
+    fn eq(&self, other: &Cause) -> bool {
+        self.number() == other.number()
     }
 }
 

@@ -1,10 +1,13 @@
 //! Cells and rows, the kinds of columns, words, and the faults that calls are refused with.
+mod display;
 mod faults;
 mod kinds;
 mod rows;
 mod values;
 mod words;
 
+pub use display::CellDisplay;
+pub use display::RowDisplay;
 pub use faults::Cause;
 pub use faults::CauseDebug;
 pub use faults::CauseEq;
@@ -46,3 +49,6 @@ pub use words::WordPartialEq;
 pub use words::spelling::is_keyword;
 pub use words::spelling::is_name;
 pub use words::spelling::is_word;
+
+#[cfg(test)]
+mod tests;

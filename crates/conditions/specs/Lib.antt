@@ -1,0 +1,6 @@
+pub mod Reading
+pub mod Meaning
+pub mod Picks
+pub mod Picked
+pub mod Resolving
+pub mod Found

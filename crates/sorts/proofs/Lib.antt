@@ -1,0 +1,4 @@
+pub mod Adding
+pub mod Refusing
+pub mod Wording
+pub mod Sizing

@@ -1,0 +1,3 @@
+pub mod Describing
+pub mod Offered
+pub mod Described
