@@ -10,10 +10,9 @@ use Rattle.std.specs.Options.{mapped}
 use Rattle.std.specs.Of.Vec.{vec-items}
 use Rattle.model.specs.Values.{any, tail, same-bytes}
 use Rattle.model.specs.Sorts as model
-use Rattle.cells.specs.Held.{kind-of}
+use Rattle.sorts.specs.Offered.{offered-column}
 use Rattle.commands.specs.declared.parsing.Storage.{Storage}
 use Rattle.commands.specs.declared.parsing.Storage.the-variants.{Slots, Image}
-use Rattle.commands.specs.declared.parsing.Heading.{Heading}
 use Rattle.commands.specs.declared.parsing.Verb.{Verb}
 use Rattle.commands.specs.declared.parsing.Verb.the-variants as verb
 use Rattle.commands.specs.declared.parsing.Command.{Command}
@@ -189,14 +188,11 @@ abbrev pub meaning : List ℕ → Meaning
 meaning l = cond (is-skipped l) skipped (or-bad (command-of l))
 
 -- the same of the program's values
-abbrev pub column-of : Heading → model.Column
-column-of h = record { word = h .word .now; kind = kind-of (h .kind) }
-
 abbrev pub asked : Command → Asked
 asked command.Help = help
 asked command.Fresh = fresh
-asked (command.Table name storage room columns) = table (name .now) storage room (map column-of (vec-items columns))
-asked (command.Column h) = column (column-of h)
+asked (command.Table name storage room columns) = table (name .now) storage room (map offered-column (vec-items columns))
+asked (command.Column h) = column (offered-column h)
 asked (command.Dep left right) = dep (texts (vec-items left)) (texts (vec-items right))
 asked command.Seal = seal
 asked (command.Load name bytes) = load (name .now) (vec-items bytes)

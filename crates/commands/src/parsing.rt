@@ -6,11 +6,12 @@ ghost use Rattle.std.specs.Of.Vec.{vec-items};
 ghost use Rattle.std.specs.Vec.{made};
 ghost use Rattle.std.specs.Options.{mapped};
 ghost use Rattle.cells.specs.Held.{kind-of};
+ghost use Rattle.sorts.specs.Offered.{offered-column};
 ghost use Rattle.model.specs.Values.{every, same-bytes};
 ghost use Rattle.commands.specs.Lists.{each, front};
 ghost use Rattle.commands.specs.Spelling.{hex-pair};
 ghost use Rattle.commands.specs.Lines.{is-comment, is-space, texts};
-ghost use Rattle.commands.specs.Forms.{kind-said, storage-said, heading-said, column-of, headings-said};
+ghost use Rattle.commands.specs.Forms.{kind-said, storage-said, heading-said, headings-said};
 ghost use Rattle.commands.specs.Forms.{table-said, no-arrow, dep-said, load-said, column-said, bank-said};
 ghost use Rattle.commands.specs.Forms.{rows-said, read-said, write-said, count-said, try-said, put-said};
 ghost use Rattle.commands.specs.Forms.{spelling, verb-of, says, asked, none-after, meaning, meant};
@@ -19,6 +20,7 @@ use crate::numbers::number;
 use crate::tokens::split_command;
 use crate::tokens::words;
 use cells::Kind;
+use sorts::NewColumn;
 use std::alloc::AllocError;
 use std::alloc::Global;
 
@@ -29,13 +31,6 @@ pub enum Storage {
     Image(u32),
 }
 
-// A column as it is asked for. Its word is judged later.
-#[derive(Clone, Copy)]
-pub struct Heading<'a> {
-    pub word: &'a [u8],
-    pub kind: Kind,
-}
-
 #[derive(Drop)]
 pub enum Command<'a> {
     Help,
@@ -44,10 +39,10 @@ pub enum Command<'a> {
         name: &'a [u8],
         storage: Storage,
         room: u32,
-        columns: Vec<Heading<'a>>,
+        columns: Vec<NewColumn<'a>>,
     },
     Column {
-        heading: Heading<'a>,
+        column: NewColumn<'a>,
     },
     Dep {
         left: Vec<&'a [u8]>,
@@ -190,21 +185,21 @@ fn storage_named(word: &[u8], size: &[u8]) -> Option<Storage>
     }
 }
 
-fn column_named<'a>(word: &'a [u8], kind: &[u8]) -> Option<Heading<'a>>
-    ensures { λ r. ⌜ mapped column-of r ≡ heading-said (now (word .entry)) (now (kind .entry)) ⌝ }
+fn column_named<'a>(word: &'a [u8], kind: &[u8]) -> Option<NewColumn<'a>>
+    ensures { λ r. ⌜ mapped offered-column r ≡ heading-said (now (word .entry)) (now (kind .entry)) ⌝ }
 {
     let Some(kind) = kind_named(kind) else {
         return None;
     };
-    Some(Heading { word, kind })
+    Some(NewColumn { word, kind })
 }
 
 // Pairs of a word and a kind.
 fn columns_named<'a>(
     heap: Global,
     words: &[&'a [u8]],
-) -> Result<Option<Vec<Heading<'a>>>, AllocError>
-    ensures { λ r. ⌜ made r (λ o. mapped (λ v. map column-of (vec-items v)) o ≡ headings-said (texts (now (words .entry)))) ⌝ }
+) -> Result<Option<Vec<NewColumn<'a>>>, AllocError>
+    ensures { λ r. ⌜ made r (λ o. mapped (λ v. map offered-column (vec-items v)) o ≡ headings-said (texts (now (words .entry)))) ⌝ }
 {
     let mut columns = Vec::new(heap);
     let mut rest = words;
@@ -312,10 +307,10 @@ fn column<'a>(words: &[&'a [u8]]) -> Option<Command<'a>>
     let [word, kind] = words else {
         return None;
     };
-    let Some(heading) = column_named(*word, *kind) else {
+    let Some(column) = column_named(*word, *kind) else {
         return None;
     };
-    Some(Command::Column { heading })
+    Some(Command::Column { column })
 }
 
 fn bank<'a>(words: &[&'a [u8]]) -> Option<Command<'a>>

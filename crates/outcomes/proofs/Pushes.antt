@@ -1,15 +1,13 @@
 -- What has been written so far, member by member.
 use mathlib.Core.Path.{_≡_, refl, sym, ap, _∙_}
 use mathlib.Core.List.{List, [], _∷_, _++_, map, append-assoc}
-use Prim.Native.Nat.{ℕ, _+_, _-_, _≤_, _<_}
+use Prim.Native.Nat.{ℕ, _+_, _≤_, _<_}
 use native.Mathlib.Omega.{arith}
-use lib.ListN.{length, getD, take, drop}
+use lib.ListN.{length, getD, take}
 use Rattle.std.specs.Joined.{joined}
-use Rattle.std.proofs.shelf.Lists.{joined-more, take-more, take-all, take-rest}
+use Rattle.std.proofs.shelf.Lists.{joined-more, take-more, take-all}
 use Rattle.std.proofs.shelf.Ways.{tells}
-use Rattle.cells.specs.Held.{value}
-use Rattle.cells.specs.declared.values.Cell.{Cell}
-use Rattle.outcomes.specs.Printed.{hex-digit, cell-text, next-cell-text, row-text}
+use Rattle.outcomes.specs.Printed.{hex-digit}
 
 module _ {X : Type 0} (f : X → List ℕ) (before : List ℕ) (xs : List X) (i : ℕ) (so-far : List ℕ) (e : so-far ≡ before ++ joined f (take i xs)) where
   pub pushed-more : (d : X) (after : List ℕ) → i < length xs → after ≡ so-far ++ f (getD xs i d) → after ≡ before ++ joined f (take (i + 1) xs)
@@ -29,11 +27,3 @@ three s r q p a b c d e f =
 
 pub hex-small : (n : ℕ) → n < 16 → hex-digit n < 128
 hex-small n h = grind (arith, tells)
-
-pub row-none : (cs : List Cell) → length cs ≡ 0 → row-text (map value cs) ≡ []
-row-none [] e = refl
-row-none (c ∷ cs) e = absurd (omega arith)
-
-pub row-some : (cs : List Cell) (d : Cell) → 1 ≤ length cs → row-text (map value cs) ≡ cell-text (value (getD cs 0 d)) ++ joined next-cell-text (map value (take (length cs - 1) (drop 1 cs)))
-row-some [] d h = absurd (omega arith)
-row-some (c ∷ cs) d h = ap (λ l. cell-text (value c) ++ joined next-cell-text (map value l)) (sym (take-rest (c ∷ cs) 1))

@@ -8,9 +8,10 @@ use lib.ListN.{length}
 use Rattle.std.specs.Of.Vec.{vec-items}
 use Rattle.std.specs.Joined.{joined}
 use Rattle.std.specs.Written.{decimal}
-use Rattle.model.specs.Values.{Value, num, text, Tuple, Relation}
+use Rattle.model.specs.Values.{Tuple, Relation}
 use Rattle.model.specs.Faults.{Fault}
 use Rattle.cells.specs.Held.{tuples}
+use Rattle.cells.specs.Printed.{printed-row}
 use Rattle.cells.specs.Numbered.{told}
 use Rattle.outcomes.specs.declared.Outcome.{Outcome}
 use Rattle.outcomes.specs.declared.Outcome.the-variants as outcome
@@ -28,21 +29,9 @@ hex-pair b = 0x20 ∷ hex-digit (b / 16) ∷ hex-digit (b % 16) ∷ []
 abbrev pub hex-text : List ℕ → List ℕ
 hex-text l = joined hex-pair l
 
--- a number in decimal digits, a text in quotes
-abbrev pub cell-text : Value → List ℕ
-cell-text (num n) = decimal n
-cell-text (text b) = codes "\"" ++ (b ++ codes "\"")
-
--- cells separated by a space
-abbrev pub next-cell-text : Value → List ℕ
-next-cell-text v = 0x20 ∷ cell-text v
-
-abbrev pub row-text : Tuple → List ℕ
-row-text [] = []
-row-text (v ∷ t) = cell-text v ++ joined next-cell-text t
-
+-- a row on its line
 abbrev pub row-line : Tuple → List ℕ
-row-line t = row-text t ++ newline
+row-line t = printed-row t ++ newline
 
 abbrev pub rows-text : Relation → List ℕ
 rows-text R = joined row-line R

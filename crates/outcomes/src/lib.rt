@@ -1,19 +1,18 @@
 //! What comes of a command, and how it is printed.
 ghost use mathlib.Core.Path.{_≡_};
-ghost use mathlib.Core.List.{_++_, map};
+ghost use mathlib.Core.List.{_++_};
 ghost use Prim.Native.Nat.{_<_};
 ghost use lib.Chars.{codes};
 ghost use Rattle.std.specs.Written.{decimal};
-ghost use Rattle.std.specs.Joined.{joined};
 ghost use Rattle.std.specs.Of.String.{string-bytes};
 ghost use Rattle.std.specs.Vec.{made};
-ghost use Rattle.cells.specs.Held.{tuple, tuples, value};
+ghost use Rattle.cells.specs.Held.{tuple, tuples};
 ghost use Rattle.cells.specs.Numbered.{told};
 ghost use Rattle.outcomes.specs.Printed.{newline, hex-digit, hex-pair, hex-text, bank-text, fault-text, text-of};
-ghost use Rattle.outcomes.specs.Printed.{cell-text, next-cell-text, row-text, row-line, rows-text, listing};
-use cells::Cell;
+ghost use Rattle.outcomes.specs.Printed.{row-line, rows-text, listing};
 use cells::Fault;
 use cells::Row;
+use cells::RowDisplay;
 use std::alloc::AllocError;
 use std::alloc::Global;
 
@@ -64,55 +63,11 @@ fn push_hex(out: &mut String, bytes: &[u8]) -> Result<(), AllocError>
     Ok(())
 }
 
-// A number as it is, a text in quotes.
-fn cell_text(heap: Global, cell: &Cell) -> Result<String, AllocError>
-    ensures { λ r. ⌜ made r (λ s. string-bytes s ≡ cell-text (value (now (cell .entry)))) ⌝ }
-{
-    match cell {
-        Cell::Num(n) => format!(heap, "{n}"),
-        Cell::Text(s) => format!(heap, "\"{s}\""),
-    }
-}
-
-// Writes a space and the cell.
-fn push_cell(out: &mut String, heap: Global, cell: &Cell) -> Result<(), AllocError>
-    ensures { λ r. ⌜ made r (λ _. string-bytes (now (out .exit)) ≡ string-bytes (now (out .entry)) ++ next-cell-text (value (now (cell .entry)))) ⌝ }
-{
-    let text = cell_text(heap, cell)?;
-    out.push_str(" ")?;
-    out.push_str(text.as_str())?;
-    Ok(())
-}
-
-fn push_cells(out: &mut String, heap: Global, cells: &[Cell]) -> Result<(), AllocError>
-    ensures { λ r. ⌜ made r (λ _. string-bytes (now (out .exit)) ≡ string-bytes (now (out .entry)) ++ joined next-cell-text (map value (now (cells .entry)))) ⌝ }
-{
-    for cell in cells {
-        push_cell(out, heap, cell)?;
-    }
-    Ok(())
-}
-
-// The cells of a row, separated by a space.
-fn row_text(heap: Global, row: &Row) -> Result<String, AllocError>
-    ensures { λ r. ⌜ made r (λ s. string-bytes s ≡ row-text (tuple (now (row .entry)))) ⌝ }
-{
-    match row.cells.as_slice() {
-        [] => Ok(String::new(heap)),
-        [first, rest @ ..] => {
-            let mut text = cell_text(heap, first)?;
-            push_cells(&mut text, heap, rest)?;
-            Ok(text)
-        }
-    }
-}
-
 fn push_row(out: &mut String, heap: Global, row: &Row) -> Result<(), AllocError>
     ensures { λ r. ⌜ made r (λ _. string-bytes (now (out .exit)) ≡ string-bytes (now (out .entry)) ++ row-line (tuple (now (row .entry)))) ⌝ }
 {
-    let text = row_text(heap, row)?;
+    let text = format!(heap, "{row}\n")?;
     out.push_str(text.as_str())?;
-    out.push_str("\n")?;
     Ok(())
 }
 

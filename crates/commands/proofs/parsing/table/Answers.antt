@@ -7,7 +7,8 @@ use Rattle.std.specs.Options.{mapped}
 use Rattle.std.specs.Of.Vec.{vec-items}
 use Rattle.commands.specs.Lists.{and-then}
 use Rattle.commands.specs.Lines.{texts}
-use Rattle.commands.specs.Forms.{column-of, table, table-said}
+use Rattle.sorts.specs.Offered.{offered-column}
+use Rattle.commands.specs.Forms.{table, table-said}
 use Rattle.commands.proofs.Shapes.{table-short, four-more-is, table-without-storage, table-without-room, table-parts}
 use Rattle.commands.proofs.parsing.table.Needs as need
 
@@ -27,9 +28,9 @@ returns-in-rest-number c =
 pub returns-in-rest-2 : need.returns-in-rest-2
 returns-in-rest-2 c =
     let four : 4 ≤ length (c .args .words .now) = search needs in
-    sym (table-parts (c .args .words .now) four _ _ _ (sym (c .in-Some .ensures tt)) (sym (c .in-Some-number .ensures tt)) (sym (c .in-Continue-columns .ensures tt) ∙ ap (mapped (λ v. map column-of (vec-items v))) (c .in-rest-2 .is)))
+    sym (table-parts (c .args .words .now) four _ _ _ (sym (c .in-Some .ensures tt)) (sym (c .in-Some-number .ensures tt)) (sym (c .in-Continue-columns .ensures tt) ∙ ap (mapped (λ v. map offered-column (vec-items v))) (c .in-rest-2 .is)))
 
 pub returns : need.returns
 returns c =
     let four : 4 ≤ length (c .args .words .now) = search needs in
-    sym (table-parts (c .args .words .now) four _ _ _ (sym (c .in-Some .ensures tt)) (sym (c .in-Some-number .ensures tt)) (sym (c .in-Continue-columns .ensures tt) ∙ ap (mapped (λ v. map column-of (vec-items v))) (c .in-Some-2 .is)))
+    sym (table-parts (c .args .words .now) four _ _ _ (sym (c .in-Some .ensures tt)) (sym (c .in-Some-number .ensures tt)) (sym (c .in-Continue-columns .ensures tt) ∙ ap (mapped (λ v. map offered-column (vec-items v))) (c .in-Some-2 .is)))
