@@ -43,12 +43,22 @@ pub(crate) fn find_column(columns: &[Column], word: &[u8]) -> Option<Known>
     let Some(place) = Place::new(at) else {
         return None;
     };
-    Some(Known { place, kind: columns[at].kind })
+    Some(Known {
+        place,
+        kind: columns[at].kind,
+    })
 }
 
 impl Written {
     // A column compared with another, both by their words; a fault has the kind and the place given here.
-    pub fn with_column(columns: &[Column], word: &[u8], comparison: Comparison, other: &[u8], kind: u8, place: usize) -> Result<Written, Refusal>
+    pub fn with_column(
+        columns: &[Column],
+        word: &[u8],
+        comparison: Comparison,
+        other: &[u8],
+        kind: u8,
+        place: usize,
+    ) -> Result<Written, Refusal>
         ensures answers { λ r. ⌜ Answers (comparison-fault kind place (eight (named-columns (now (columns .entry)))) (now (word .entry)) (named (now (other .entry)))) (λ w. Some (meaning w) ≡ comparison-of (eight (named-columns (now (columns .entry)))) (now (word .entry)) (sign-of comparison) (named (now (other .entry)))) r ⌝ }
         ensures decides { λ r. ⌜ when-refused r (λ e. e ≡ Memory → ⊥) ⌝ }
     {
@@ -65,7 +75,14 @@ impl Written {
     }
 
     // A column by its word compared with a cell.
-    pub fn with_cell(columns: &[Column], word: &[u8], comparison: Comparison, cell: Cell, kind: u8, place: usize) -> Result<Written, Refusal>
+    pub fn with_cell(
+        columns: &[Column],
+        word: &[u8],
+        comparison: Comparison,
+        cell: Cell,
+        kind: u8,
+        place: usize,
+    ) -> Result<Written, Refusal>
         ensures answers { λ r. ⌜ Answers (comparison-fault kind place (eight (named-columns (now (columns .entry)))) (now (word .entry)) (given (value cell))) (λ w. Some (meaning w) ≡ comparison-of (eight (named-columns (now (columns .entry)))) (now (word .entry)) (sign-of comparison) (given (value cell))) r ⌝ }
         ensures decides { λ r. ⌜ when-refused r (λ e. e ≡ Memory → ⊥) ⌝ }
     {

@@ -63,7 +63,12 @@ impl Written {
         ensures { λ r. ⌜ r ≡ admits-row by-bytes (meaning (now (self .entry))) (tuple (now (row .entry))) ⌝ }
     {
         match self {
-            Written::Compared(place, comparison, operand) => compares(row, *place, *comparison, operand),
+            Written::Compared(place, comparison, operand) => compares(
+                row,
+                *place,
+                *comparison,
+                operand,
+            ),
             Written::Not(inner) => !inner.is_true_of(row),
             Written::Bracket(inner) => inner.is_true_of(row),
             Written::And(left, right) => left.is_true_of(row) && right.is_true_of(row),

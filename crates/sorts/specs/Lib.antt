@@ -1,3 +1,4 @@
 pub mod Describing
 pub mod Offered
 pub mod Described
+pub mod Sealed

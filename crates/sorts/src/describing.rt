@@ -1,12 +1,12 @@
 // How a sort is described.
 ghost use mathlib.Core.Path.{_≡_};
-ghost use mathlib.Core.Bool.{Bool, true, false};
+ghost use mathlib.Core.List.{[]};
 ghost use Rattle.std.specs.Results.{Cases};
 ghost use Rattle.cells.specs.Answering.{Answers};
-ghost use Rattle.model.specs.Values.{any, every, same-bytes};
+ghost use Rattle.model.specs.Values.{any, same-bytes};
 ghost use Rattle.columns.specs.Members.{members, dependency, dependencies};
 ghost use Rattle.columns.specs.Named.{named-columns};
-ghost use Rattle.sorts.specs.Describing.{column-fault, later-column-fault, with-column, unknown-fault, twice-fault, sizes-fault, named-set, same-dependency, form-fault};
+ghost use Rattle.sorts.specs.Describing.{column-fault, later-column-fault, with-column, unknown-fault, twice-fault, sizes-fault, named-set, same-dependency, form-fault, named-dependency, dependency-fault, with-dependency};
 ghost use Rattle.sorts.specs.Described.{described};
 ghost use Rattle.sorts.specs.Offered.{words, offered-column};
 use crate::description::Description;
@@ -122,6 +122,16 @@ fn check_form(heap: Global, deps: &[Dependency], d: Dependency) -> Result<(), Re
 }
 
 impl Description {
+    pub fn new(heap: Global) -> Description
+        ensures { λ r. ⌜ described r ≡ record { columns = []; deps = []; parts = [] } ⌝ }
+    {
+        Description {
+            columns: Vec::new(heap),
+            deps: Vec::new(heap),
+            parts: Vec::new(heap),
+        }
+    }
+
     // One column more.
     pub fn add_column(&mut self, heap: Global, column: NewColumn) -> Result<(), Refusal>
         ensures answers { λ r. ⌜ Answers (later-column-fault (described (now (self .entry)) .columns) (offered-column (column .entry))) (λ _. described (now (self .exit)) ≡ with-column (described (now (self .entry))) (offered-column (column .entry))) r ⌝ }
@@ -134,6 +144,43 @@ impl Description {
                 word,
                 kind: column.kind,
             })?;
+        Ok(())
+    }
+
+    // The dependency that the words name.
+    fn dependency<'a>(
+        &self,
+        heap: Global,
+        left: &[&'a [u8]],
+        right: &[&'a [u8]],
+    ) -> Result<Dependency, Refusal>
+        ensures { λ r. ⌜ Answers (dependency-fault (described (now (self .entry))) (words (now (left .entry))) (words (now (right .entry)))) (λ d. dependency d ≡ named-dependency (described (now (self .entry)) .columns) (words (now (left .entry))) (words (now (right .entry)))) r ⌝ }
+    {
+        let mut all = Vec::from_slice(heap, left)?;
+        all.extend_from_slice(right)?;
+        check_known(&self.columns, &all)?;
+        check_once(&all)?;
+        check_sizes(&self.deps, left, right)?;
+        let d = Dependency {
+            left: named_set(&self.columns, left),
+            right: named_set(&self.columns, right),
+        };
+        check_form(heap, &self.deps, d)?;
+        Ok(d)
+    }
+
+    // One dependency more.
+    pub fn add_dependency<'a>(
+        &mut self,
+        heap: Global,
+        left: &[&'a [u8]],
+        right: &[&'a [u8]],
+    ) -> Result<(), Refusal>
+        ensures answers { λ r. ⌜ Answers (dependency-fault (described (now (self .entry))) (words (now (left .entry))) (words (now (right .entry)))) (λ _. described (now (self .exit)) ≡ with-dependency (described (now (self .entry))) (named-dependency (described (now (self .entry)) .columns) (words (now (left .entry))) (words (now (right .entry))))) r ⌝ }
+        ensures kept { λ r. ⌜ Cases r (λ _. Unit {0}) (λ _. described (now (self .exit)) ≡ described (now (self .entry))) ⌝ }
+    {
+        let d = self.dependency(heap, left, right)?;
+        self.deps.push(d)?;
         Ok(())
     }
 }

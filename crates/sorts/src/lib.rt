@@ -2,6 +2,9 @@
 mod describing;
 mod description;
 mod offered;
+mod sealing;
+mod sort;
 
 pub use description::Description;
 pub use offered::NewColumn;
+pub use sort::Sort;
