@@ -1,0 +1,151 @@
+//! What a session does with each command.
+ghost use mathlib.Core.Path.{_≡_};
+ghost use Rattle.std.specs.Of.Vec.{vec-items};
+ghost use Rattle.std.specs.Options.{mapped};
+ghost use Rattle.model.specs.Values.{find, same-bytes};
+ghost use Rattle.sorts.specs.Offered.{offered-column, offered-columns, words};
+ghost use Rattle.session.specs.Callers.{caller, Replies, table-reply, column-reply, dependency-reply, seal-reply, rows-reply, fresh-caller, stored};
+use crate::describing::describe;
+use crate::rooms::kind_number;
+use crate::rooms::room_of;
+use crate::tables::Draft;
+use crate::tables::Session;
+use crate::tables::Table;
+use cells::Refusal;
+use cells::copied_rows;
+use commands::Command;
+use commands::Storage;
+use outcomes::Outcome;
+use sorts::NewColumn;
+use std::alloc::AllocError;
+use std::alloc::Global;
+
+// What comes of a call that answers nothing but that it was accepted.
+fn accepted(result: Result<(), Refusal>) -> Result<Outcome, AllocError> {
+    match result {
+        Ok(()) => Ok(Outcome::Accepted),
+        Err(Refusal::Fault(fault)) => Ok(Outcome::Refused(fault)),
+        Err(Refusal::Memory) => Err(AllocError),
+    }
+}
+
+impl Session {
+    // A caller without tables.
+    pub fn new(heap: Global) -> Session
+        ensures { λ r. ⌜ caller r ≡ fresh-caller ⌝ }
+    {
+        Session {
+            tables: Vec::new(heap),
+            draft: None,
+        }
+    }
+
+    fn table(
+        &mut self,
+        heap: Global,
+        name: &[u8],
+        storage: Storage,
+        room: usize,
+        columns: &[NewColumn<'_>],
+    ) -> Result<Outcome, AllocError>
+        ensures { λ r. ⌜ Replies (caller (now (self .entry))) (table-reply (caller (now (self .entry))) (now (name .entry)) storage room (offered-columns (now (columns .entry)))) r (caller (now (self .exit))) ⌝ }
+    {
+        if self.draft.is_some() {
+            return Ok(Outcome::OutOfTurn);
+        }
+        match describe(heap, &self.tables, name, columns, room) {
+            Ok((name, description)) => {
+                self.draft = Some(Draft { name, storage, room, description });
+                Ok(Outcome::Accepted)
+            }
+            Err(Refusal::Fault(fault)) => Ok(Outcome::Refused(fault)),
+            Err(Refusal::Memory) => Err(AllocError),
+        }
+    }
+
+    fn column(&mut self, heap: Global, column: NewColumn<'_>) -> Result<Outcome, AllocError>
+        ensures { λ r. ⌜ Replies (caller (now (self .entry))) (column-reply (caller (now (self .entry))) (offered-column (column .entry))) r (caller (now (self .exit))) ⌝ }
+    {
+        match &mut self.draft {
+            Some(draft) => accepted(draft.description.add_column(heap, column)),
+            None => Ok(Outcome::OutOfTurn),
+        }
+    }
+
+    fn dependency(
+        &mut self,
+        heap: Global,
+        left: &[&[u8]],
+        right: &[&[u8]],
+    ) -> Result<Outcome, AllocError>
+        ensures { λ r. ⌜ Replies (caller (now (self .entry))) (dependency-reply (caller (now (self .entry))) (words (now (left .entry))) (words (now (right .entry)))) r (caller (now (self .exit))) ⌝ }
+    {
+        match &mut self.draft {
+            Some(draft) => accepted(draft.description.add_dependency(heap, left, right)),
+            None => Ok(Outcome::OutOfTurn),
+        }
+    }
+
+    fn seal(&mut self, heap: Global) -> Result<Outcome, AllocError>
+        ensures { λ r. ⌜ Replies (caller (now (self .entry))) (seal-reply (caller (now (self .entry)))) r (caller (now (self .exit))) ⌝ }
+    {
+        self.tables.reserve(1)?;
+        match self.draft.take() {
+            Some(draft) => {
+                let table = sealed(heap, draft);
+                let room = table.room;
+                self.tables.push_reserved(table);
+                Ok(Outcome::Sealed(room))
+            }
+            None => Ok(Outcome::OutOfTurn),
+        }
+    }
+
+    // The place of the table with that name.
+    fn place_of(&self, name: &[u8]) -> Option<usize> {
+        for (i, table) in self.tables.iter().enumerate() {
+            if table.name.is(name) {
+                return Some(i);
+            }
+        }
+        None
+    }
+
+    fn rows(&self, heap: Global, name: &[u8]) -> Result<Outcome, AllocError> {
+        if self.draft.is_some() {
+            return Ok(Outcome::OutOfTurn);
+        }
+        match self.place_of(name) {
+            Some(i) => Ok(Outcome::Rows(copied_rows(heap, self.tables[i].rows.as_slice())?)),
+            None => Ok(Outcome::NoTable),
+        }
+    }
+
+    pub fn perform(&mut self, heap: Global, command: Command<'_>) -> Result<Outcome, AllocError> {
+        match command {
+            Command::Help => Ok(Outcome::Help),
+            Command::Fresh => {
+                *self = Session::new(heap);
+                Ok(Outcome::Fresh)
+            }
+            Command::Table { name, storage, room, columns } => {
+                self.table(heap, name, storage, room as usize, columns.as_slice())
+            }
+            Command::Column { column } => self.column(heap, column),
+            Command::Dep { left, right } => {
+                self.dependency(heap, left.as_slice(), right.as_slice())
+            }
+            Command::Seal => self.seal(heap),
+            Command::Rows { name } => self.rows(heap, name),
+            _ => Ok(Outcome::BadLine),
+        }
+    }
+}
+
+fn sealed(heap: Global, draft: Draft) -> Table {
+    let Draft { name, storage, room, description } = draft;
+    let sort = description.seal();
+    let kind = kind_number(storage);
+    let room = room_of(storage, room, sort.columns());
+    Table { name, kind, sort, room, rows: Vec::new(heap) }
+}
