@@ -2,9 +2,9 @@
 use mathlib.Core.Path.{_≡_}
 use mathlib.Core.List.{List, [], _∷_, _++_, map}
 use mathlib.Core.Bool.{Bool, cond}
-use Prim.Native.Nat.{ℕ, _+_, _-_, _/_, min}
+use Prim.Native.Nat.{ℕ, _+_, _-_, _/_, min, _<_}
 use lib.Dec.{leb}
-use lib.ListN.{length}
+use lib.ListN.{length, getD}
 use Rattle.std.specs.declared.option.Option.{Option}
 use Rattle.std.specs.declared.option.Option.the-variants.{Some, None}
 use Rattle.std.specs.Options.{mapped}
@@ -17,12 +17,16 @@ use Rattle.cells.specs.Numbered.{told}
 use Rattle.cells.specs.Worded.{letters}
 use Rattle.commands.specs.declared.parsing.Storage.{Storage}
 use Rattle.commands.specs.declared.parsing.Storage.the-variants.{Slots, Image}
+use Rattle.commands.specs.Forms.{Asked}
+use Rattle.commands.specs.Forms as asked
 use Rattle.sorts.specs.Describing.{table-fault, later-column-fault, dependency-fault, with-column, with-dependency, named-dependency}
 use Rattle.sorts.specs.Described.{described}
 use Rattle.sorts.specs.Sealed as sealing
 use Rattle.std.specs.declared.result.Result.{Result}
 use Rattle.std.specs.declared.result.Result.the-variants.{Ok, Err}
 use Rattle.std.specs.declared.alloc.AllocError.{AllocError}
+use Rattle.cells.specs.declared.faults.Refusal.{Refusal}
+use Rattle.cells.specs.declared.faults.Refusal.the-variants as refusal
 use Rattle.outcomes.specs.declared.Outcome.{Outcome}
 use Rattle.outcomes.specs.declared.Outcome.the-variants as outcome
 use Rattle.session.specs.declared.tables.Table.{Table}
@@ -71,6 +75,10 @@ pub record Caller : Type 0 where
 
 abbrev pub names : List Kept → List (List ℕ)
 names T = map (λ t. t .name) T
+
+-- the table of a name
+abbrev pub is-named : List ℕ → Kept → Bool
+is-named n t = same-bytes (t .name) n
 
 -- what is held in the program
 abbrev pub stored : Table → Kept
@@ -149,7 +157,7 @@ on-found None c f = (no-table, c)
 on-found (Some t) c f = f t
 
 abbrev pub on-table : Caller → List ℕ → (Kept → Reply) → Reply
-on-table c name f = when-idle c (on-found (find (λ t. same-bytes (t .name) name) (c .tables)) c f)
+on-table c name f = when-idle c (on-found (find (is-named name) (c .tables)) c f)
 
 abbrev pub rows-reply : Caller → List ℕ → Reply
 rows-reply c name = on-table c name (λ t. (rows (t .rows), c))
@@ -174,3 +182,36 @@ answer outcome.NoMemory = no-memory
 abbrev pub Replies : Caller → Reply → Result Outcome AllocError → Caller → Type 0
 Replies c r (Ok o) c′ = (answer o ≡ r .0) × (c′ ≡ r .1)
 Replies c r (Err e) c′ = c′ ≡ c
+
+-- how a refusal is answered
+abbrev pub Heard : Result (Unit {0}) Refusal → Result Outcome AllocError → Type 0
+Heard (Ok u) (Ok o) = o ≡ outcome.Accepted
+Heard (Ok u) (Err e) = ⊥
+Heard (Err (refusal.Fault f)) (Ok o) = o ≡ outcome.Refused f
+Heard (Err (refusal.Fault f)) (Err e) = ⊥
+Heard (Err refusal.Memory) (Ok o) = ⊥
+Heard (Err refusal.Memory) (Err e) = Unit {0}
+
+-- the table of a name among those of the program, and its place
+abbrev pub named : List ℕ → List Table → Option Kept
+named n ts = find (is-named n) (map stored ts)
+
+abbrev pub Placed : List Table → List ℕ → Option ℕ → Type 0
+Placed ts n None = named n ts ≡ None
+Placed ts n (Some i) = (i < length ts) × ((d : Table) → named n ts ≡ Some (stored (getD ts i d)))
+
+-- What comes of each command. Those that are not there yet are bad lines.
+abbrev pub reply : Caller → Asked → Reply
+reply c asked.help = (help, c)
+reply c asked.fresh = (fresh, fresh-caller)
+reply c asked.seal = seal-reply c
+reply c (asked.table name storage room C) = table-reply c name storage room C
+reply c (asked.column e) = column-reply c e
+reply c (asked.dep L R) = dependency-reply c L R
+reply c (asked.load name b) = (bad-line, c)
+reply c (asked.bank name n) = (bad-line, c)
+reply c (asked.rows name) = rows-reply c name
+reply c (asked.read name path) = (bad-line, c)
+reply c (asked.write name path) = (bad-line, c)
+reply c (asked.try n) = (bad-line, c)
+reply c (asked.put n) = (bad-line, c)

@@ -56,7 +56,10 @@ fn columns_described(heap: Global, columns: &[NewColumn<'_>]) -> Result<Descript
     }
     let mut description = Description::new(heap);
     for column in columns {
-        description.add_column(heap, *column)?;
+        match description.add_column(heap, *column) {
+            Ok(()) => {}
+            Err(refusal) => return Err(refusal),
+        }
     }
     Ok(description)
 }

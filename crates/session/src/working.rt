@@ -1,10 +1,9 @@
 //! What a session does with each command.
 ghost use mathlib.Core.Path.{_≡_};
-ghost use Rattle.std.specs.Of.Vec.{vec-items};
-ghost use Rattle.std.specs.Options.{mapped};
-ghost use Rattle.model.specs.Values.{find, same-bytes};
 ghost use Rattle.sorts.specs.Offered.{offered-column, offered-columns, words};
-ghost use Rattle.session.specs.Callers.{caller, Replies, table-reply, column-reply, dependency-reply, seal-reply, rows-reply, fresh-caller, stored};
+ghost use Rattle.commands.specs.Forms.{asked};
+ghost use Rattle.session.specs.Callers.{caller, stored, drafted, begun, fresh-caller, Placed, Heard, Replies, reply};
+ghost use Rattle.session.specs.Callers.{table-reply, column-reply, dependency-reply, seal-reply, rows-reply};
 use crate::describing::describe;
 use crate::rooms::kind_number;
 use crate::rooms::room_of;
@@ -21,12 +20,26 @@ use std::alloc::AllocError;
 use std::alloc::Global;
 
 // What comes of a call that answers nothing but that it was accepted.
-fn accepted(result: Result<(), Refusal>) -> Result<Outcome, AllocError> {
+fn accepted(result: Result<(), Refusal>) -> Result<Outcome, AllocError>
+    ensures { λ r. ⌜ Heard result r ⌝ }
+{
     match result {
         Ok(()) => Ok(Outcome::Accepted),
         Err(Refusal::Fault(fault)) => Ok(Outcome::Refused(fault)),
         Err(Refusal::Memory) => Err(AllocError),
     }
+}
+
+// The place of the first table with that name.
+fn place_of(tables: &[Table], name: &[u8]) -> Option<usize>
+    ensures { λ r. ⌜ Placed (now (tables .entry)) (now (name .entry)) r ⌝ }
+{
+    for (i, table) in tables.iter().enumerate() {
+        if table.name.is(name) {
+            return Some(i);
+        }
+    }
+    None
 }
 
 impl Session {
@@ -55,7 +68,12 @@ impl Session {
         }
         match describe(heap, &self.tables, name, columns, room) {
             Ok((name, description)) => {
-                self.draft = Some(Draft { name, storage, room, description });
+                self.draft = Some(Draft {
+                    name,
+                    storage,
+                    room,
+                    description,
+                });
                 Ok(Outcome::Accepted)
             }
             Err(Refusal::Fault(fault)) => Ok(Outcome::Refused(fault)),
@@ -72,11 +90,11 @@ impl Session {
         }
     }
 
-    fn dependency(
+    fn dependency<'a>(
         &mut self,
         heap: Global,
-        left: &[&[u8]],
-        right: &[&[u8]],
+        left: &[&'a [u8]],
+        right: &[&'a [u8]],
     ) -> Result<Outcome, AllocError>
         ensures { λ r. ⌜ Replies (caller (now (self .entry))) (dependency-reply (caller (now (self .entry))) (words (now (left .entry))) (words (now (right .entry)))) r (caller (now (self .exit))) ⌝ }
     {
@@ -101,36 +119,34 @@ impl Session {
         }
     }
 
-    // The place of the table with that name.
-    fn place_of(&self, name: &[u8]) -> Option<usize> {
-        for (i, table) in self.tables.iter().enumerate() {
-            if table.name.is(name) {
-                return Some(i);
-            }
-        }
-        None
-    }
-
-    fn rows(&self, heap: Global, name: &[u8]) -> Result<Outcome, AllocError> {
+    fn rows(&self, heap: Global, name: &[u8]) -> Result<Outcome, AllocError>
+        ensures { λ r. ⌜ Replies (caller (now (self .entry))) (rows-reply (caller (now (self .entry))) (now (name .entry))) r (caller (now (self .entry))) ⌝ }
+    {
         if self.draft.is_some() {
             return Ok(Outcome::OutOfTurn);
         }
-        match self.place_of(name) {
+        match place_of(&self.tables, name) {
             Some(i) => Ok(Outcome::Rows(copied_rows(heap, self.tables[i].rows.as_slice())?)),
             None => Ok(Outcome::NoTable),
         }
     }
 
-    pub fn perform(&mut self, heap: Global, command: Command<'_>) -> Result<Outcome, AllocError> {
+    // Does what the command asks for, and answers what comes of it.
+    pub fn perform(&mut self, heap: Global, command: Command<'_>) -> Result<Outcome, AllocError>
+        ensures { λ r. ⌜ Replies (caller (now (self .entry))) (reply (caller (now (self .entry))) (asked (command .entry))) r (caller (now (self .exit))) ⌝ }
+    {
         match command {
             Command::Help => Ok(Outcome::Help),
             Command::Fresh => {
                 *self = Session::new(heap);
                 Ok(Outcome::Fresh)
             }
-            Command::Table { name, storage, room, columns } => {
-                self.table(heap, name, storage, room as usize, columns.as_slice())
-            }
+            Command::Table {
+                name,
+                storage,
+                room,
+                columns,
+            } => { self.table(heap, name, storage, room as usize, columns.as_slice()) }
             Command::Column { column } => self.column(heap, column),
             Command::Dep { left, right } => {
                 self.dependency(heap, left.as_slice(), right.as_slice())
@@ -142,10 +158,24 @@ impl Session {
     }
 }
 
-fn sealed(heap: Global, draft: Draft) -> Table {
-    let Draft { name, storage, room, description } = draft;
+// The table that a draft is sealed into.
+fn sealed(heap: Global, draft: Draft) -> Table
+    ensures { λ r. ⌜ stored r ≡ begun (drafted draft) ⌝ }
+{
+    let Draft {
+        name,
+        storage,
+        room,
+        description,
+    } = draft;
     let sort = description.seal();
     let kind = kind_number(storage);
     let room = room_of(storage, room, sort.columns());
-    Table { name, kind, sort, room, rows: Vec::new(heap) }
+    Table {
+        name,
+        kind,
+        sort,
+        room,
+        rows: Vec::new(heap),
+    }
 }

@@ -1,0 +1,4 @@
+pub mod Refusing
+pub mod Widths
+pub mod Checks
+pub mod Steps
