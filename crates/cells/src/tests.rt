@@ -1,5 +1,6 @@
 use crate::Cause;
 use crate::Cell;
+use crate::CellPartialOrd;
 use crate::Kind;
 use crate::Row;
 use crate::RowDisplay;

@@ -1,1 +1,5 @@
 pub mod Groups
+pub mod Fields
+pub mod Rows
+pub mod Whole
+pub mod Dues

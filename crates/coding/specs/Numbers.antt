@@ -1,18 +1,12 @@
 -- Numbers in groups of seven bits: what is read is what was written.
 use mathlib.Core.Path.{_≡_}
 use mathlib.Core.List.{List, _++_}
-use mathlib.Core.Bool.{Bool, true}
+use mathlib.Core.Logic.{_↔_}
 use Prim.Native.Nat.{ℕ, _≤_}
-use lib.Dec.{ltb}
 use Rattle.std.specs.declared.option.Option.{Option}
 use Rattle.std.specs.declared.option.Option.the-variants.{Some, None}
-use Rattle.model.specs.Values.{every}
 use Rattle.model.specs.Sorts.{greatest}
 use Rattle.model.specs.Banks.{groups, find-number}
-
--- a list of bytes: numbers below 256
-abbrev pub are-bytes : List ℕ → Bool
-are-bytes b = every (λ x. ltb x 256) b
 
 -- b begins with the groups of n, and rest follows
 abbrev pub Begins : List ℕ → ℕ → List ℕ → Type 0
@@ -28,8 +22,8 @@ Groups-once = (m n : ℕ) (r s : List ℕ) → m ≤ greatest → n ≤ greatest
 
 -- a number is found exactly where its groups stand
 abbrev pub Numbers-exact : Type 0
-Numbers-exact = (b : List ℕ) (n : ℕ) (rest : List ℕ) → are-bytes b ≡ true → (find-number b ≡ Some (n, rest) → Begins b n rest) × (Begins b n rest → find-number b ≡ Some (n, rest))
+Numbers-exact = (b : List ℕ) (n : ℕ) (rest : List ℕ) → (find-number b ≡ Some (n, rest)) ↔ Begins b n rest
 
 -- and none is found exactly where none stands
 abbrev pub None-exact : Type 0
-None-exact = (b : List ℕ) → are-bytes b ≡ true → (find-number b ≡ None → No-number b) × (No-number b → find-number b ≡ None)
+None-exact = (b : List ℕ) → (find-number b ≡ None) ↔ No-number b

@@ -2,3 +2,4 @@ pub mod Places
 pub mod Folds
 pub mod Trees
 pub mod Lookups
+pub mod Alike

@@ -1,4 +1,5 @@
 //! Columns, sets of columns and functional dependencies: closure, tree form and the order in which dependencies are worked.
+mod agreeing;
 mod column;
 mod dependencies;
 mod set;

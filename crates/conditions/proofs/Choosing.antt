@@ -3,8 +3,9 @@ use Prim.Native.Nat.{ℕ, zero, suc, _+_, _≤_, _<_}
 use native.Mathlib.Omega.{arith}
 use mathlib.Core.Path.{_≡_, refl, sym, ap, ap₂, subst, _∙_}
 use mathlib.Core.List.{List, [], _∷_, map}
-use mathlib.Core.Bool.{Bool, true, false, _&&_}
+use mathlib.Core.Bool.{Bool, true, false, _&&_, _||_, false≢true}
 use lib.Dec.{leb}
+use Rattle.std.specs.declared.option.Option.the-variants.{Some}
 use lib.ListN.{length, drop, getD}
 use Rattle.std.proofs.shelf.Lists.{length-map}
 use Rattle.model.specs.Decisions.{is-below}
@@ -14,13 +15,17 @@ use Rattle.std.specs.declared.cmp.Ordering.the-variants.{Less, Equal, Greater}
 use Rattle.cells.specs.Held.{ordering}
 use Rattle.model.specs.Orders.{Order, by-bytes}
 use Rattle.model.specs.Sorts.{Kind, of-kind}
-use Rattle.model.specs.Values.{Value, every}
+use Rattle.model.specs.Values.{Value, any, every}
 use Rattle.std.proofs.shelf.Tests.{and-from, le-leb, lt-leb}
-use Rattle.conditions.specs.Picks.{is-few, of-first-kind, kind-of-value, rising, is-choice}
+use Rattle.conditions.specs.Picks.{first-kind, is-few, of-first-kind, kind-of-value, rising, is-choice}
 
 pub every-map : {A B : Type 0} (p : B → Bool) (f : A → B) (l : List A) → every (λ x. p (f x)) l ≡ every p (map f l)
 every-map p f [] = refl
 every-map p f (x ∷ l) = ap (λ b. p (f x) && b) (every-map p f l)
+
+pub any-map : {A B : Type 0} (p : B → Bool) (f : A → B) (l : List A) → any (λ x. p (f x)) l ≡ any p (map f l)
+any-map p f [] = refl
+any-map p f (x ∷ l) = ap (λ b. p (f x) || b) (any-map p f l)
 
 below-lt : (x : Ordering) → is-below (ordering x) ≡ isLt x
 below-lt Less = refl
@@ -84,3 +89,12 @@ kind-none f (x ∷ l) h = absurd (let z : ⊥ = omega arith in z)
 pub kind-first : {A : Type 0} (f : A → Value) (l : List A) (x : A) (k : Kind) (r : Bool) → 0 < length l → x ≡ getD l 0 x → k ≡ kind-of-value (f x) → r ≡ every (of-kind k) (map f l) → r ≡ of-first-kind (map f l)
 kind-first f [] x k r h e p q = absurd (let z : ⊥ = omega arith in z)
 kind-first f (y ∷ l) x k r h e p q = q ∙ ap (λ j. every (of-kind j) (map f (y ∷ l))) (p ∙ ap (λ z. kind-of-value (f z)) e)
+
+-- a choice has a first cell, and its kind
+pub choice-some : {A : Type 0} (f : A → Value) (l : List A) → is-choice (map f l) ≡ true → 0 < length l
+choice-some f [] h = absurd (false≢true h)
+choice-some f (x ∷ l) h = omega arith
+
+pub first-at : {A : Type 0} (f : A → Value) (l : List A) (x : A) → 0 < length l → x ≡ getD l 0 x → first-kind (map f l) ≡ Some (kind-of-value (f x))
+first-at f [] x h e = absurd (let z : ⊥ = omega arith in z)
+first-at f (y ∷ l) x h e = ap (λ z. Some (kind-of-value (f z))) (sym e)

@@ -1,3 +1,4 @@
+pub mod Choices
 pub mod Choosing
 pub mod Columns
 pub mod Lookups

@@ -4,3 +4,5 @@ pub mod Picks
 pub mod Picked
 pub mod Resolving
 pub mod Found
+pub mod Placed
+pub mod Mixed

@@ -9,6 +9,7 @@ use cells::Cell;
 use cells::CellDebug;
 
 pub mod choosing;
+pub mod placing;
 
 // A column by its word, and 1 to 32 ascending cells of one kind.
 #[derive(Debug, Drop)]

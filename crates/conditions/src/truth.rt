@@ -89,7 +89,7 @@ pub impl Condition for Written as WrittenCondition {
     }
 }
 
-fn only(place: Place) -> ColumnSet
+pub(crate) fn only(place: Place) -> ColumnSet
     ensures { λ r. ⌜ Same (members r) (singleton (place .at)) ⌝ }
 {
     ColumnSet::empty().with(place.at())

@@ -11,6 +11,8 @@ use Rattle.model.specs.Facts.{and-both, cell-tail, has-tail, or-left, or-right}
 use Rattle.model.specs.Revision.{with-cells}
 use Rattle.model.specs.Sorts.{Agree, Column, Kind, Part, Shaped, admitted, agrees, of-kind}
 use Rattle.model.specs.Values.{Relation, Tuple, Value, cell, is-in, num, same-bytes, same-list, same-tuple, same-value, tail, text, _∈_}
+use Rattle.laws.specs.Orders.{Equality-test}
+use Rattle.laws.specs.Sorts.{Sets-test}
 use Rattle.laws.proofs.Members.{and-left, and-right, bool-cases, clash, in-any, not-false, not-true, of-any}
 
 -- the tests of equality
@@ -237,3 +239,19 @@ and-assoc false b c = refl
 pub admitted-append : (P Q : List Part) (t : Tuple) → admitted (P ++ Q) t ≡ (admitted P t && admitted Q t)
 admitted-append [] Q t = refl
 admitted-append (p ∷ P) Q t = ap (λ b. p .admits t && b) (admitted-append P Q t) ∙ sym (and-assoc (p .admits t) (admitted P t) (admitted Q t))
+
+pub equality-test : Equality-test
+equality-test = record {
+  bytes = λ a b. (bytes-is a b, is-bytes a b);
+  values = λ v w. (value-is v w, is-value v w);
+  tuples = λ s t. (tuple-is s t, is-tuple s t);
+  members = λ t R. (in-is t R, is-in-of t R);
+}
+
+pub sets-test : Sets-test
+sets-test = record {
+  subset = λ X Y. (within-is X Y, is-within X Y);
+  equality = λ X Y. (same-is X Y, is-same-set X Y);
+  disjoint = λ X Y. (apart-is X Y, is-apart X Y);
+  agreement = λ X s t. (agrees-is X s t, is-agrees X s t);
+}

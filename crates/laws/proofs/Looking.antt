@@ -34,7 +34,7 @@ some-code : {A : Type 0} → Option A → Type 0
 some-code None = ⊥
 some-code (Some i) = Unit {0}
 
-no-some : {A C : Type 0} (i : A) → _≡_ {A = Option A} None (Some i) → C
+pub no-some : {A C : Type 0} (i : A) → _≡_ {A = Option A} None (Some i) → C
 unfolding some-code
 no-some i e = absurd (subst some-code (sym e) tt)
 
@@ -42,7 +42,7 @@ or-else : {A : Type 0} → A → Option A → A
 or-else d None = d
 or-else d (Some i) = i
 
-some-same : {A : Type 0} (i j : A) → _≡_ {A = Option A} (Some i) (Some j) → i ≡ j
+pub some-same : {A : Type 0} (i j : A) → _≡_ {A = Option A} (Some i) (Some j) → i ≡ j
 unfolding or-else
 some-same i j e = ap (or-else i) e
 

@@ -20,13 +20,13 @@ pub is-column : (C : List Column) (c : Column) → c ∈ C → has-column C (c .
 is-column C c h = in-any (λ e. same-bytes (e .word) (c .word)) c C h (is-bytes (c .word) (c .word) refl)
 
 -- what a lookup finds in a list with one more column
-pub past : (v : Value) (t : Tuple) (x : Option ℕ) → cell-or-zero (v ∷ t) (mapped suc x) ≡ cell-or-zero t x
+past : (v : Value) (t : Tuple) (x : Option ℕ) → cell-or-zero (v ∷ t) (mapped suc x) ≡ cell-or-zero t x
 past v t x = value-past (v ∷ t) x
 
-pub here : (c : Column) (C : List Column) → lookup (c ∷ C) (c .word) ≡ Some 0
+here : (c : Column) (C : List Column) → lookup (c ∷ C) (c .word) ≡ Some 0
 here c C = ap (λ b. cond b (Some 0) (mapped suc (lookup C (c .word)))) (is-bytes (c .word) (c .word) refl)
 
-pub further : (c : Column) (C : List Column) (w : List ℕ) → same-bytes (c .word) w ≡ false → lookup (c ∷ C) w ≡ mapped suc (lookup C w)
+further : (c : Column) (C : List Column) (w : List ℕ) → same-bytes (c .word) w ≡ false → lookup (c ∷ C) w ≡ mapped suc (lookup C w)
 further c C w e = ap (λ b. cond b (Some 0) (mapped suc (lookup C w))) e
 
 unlike : (c : Column) (C : List Column) → Distinct (c ∷ C) → (e : Column) → e ∈ C → same-bytes (c .word) (e .word) ≡ false
@@ -174,7 +174,7 @@ lift-apart C B d X Y a i h k =
 pub lift-within : (C B : List Column) (X : ColumnSet) → Within (lift C B X) (all-columns C)
 lift-within C B X = map-within (λ c. has-word B X (c .word)) (λ c. true) C (λ c e. refl)
 
-some-at : (p : Column → Bool) (C : List Column) (c : Column) → c ∈ C → p c ≡ true → non-empty (map p C) ≡ true
+pub some-at : (p : Column → Bool) (C : List Column) (c : Column) → c ∈ C → p c ≡ true → non-empty (map p C) ≡ true
 some-at p [] c h e = absurd h
 some-at p (b ∷ C) c (inl q) e = or-left (p b) (non-empty (map p C)) (ap p (sym q) ∙ e)
 some-at p (b ∷ C) c (inr h) e = or-right (p b) (non-empty (map p C)) (some-at p C c h e)

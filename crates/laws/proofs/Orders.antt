@@ -8,6 +8,7 @@ use native.Mathlib.Omega.{arith}
 use lib.ListN.{length}
 use Rattle.model.specs.Orders.{Ascending, Below, Below-first, Order, Total, by-bytes, compare-tuples, insert, insert-at, lexical, relation-of, then-by}
 use Rattle.model.specs.Values.{Relation, Tuple, Value, filter, num, text, _∈_}
+use Rattle.laws.specs.Orders.{Relation-exact, Relation-unique}
 use Rattle.laws.proofs.Members.{of-filter}
 
 abbrev lt-code : Ordering → Type 0
@@ -234,3 +235,9 @@ length-filter-at p s R false h = omega arith
 pub length-filter : {A : Type 0} (p : A → Bool) (R : List A) → length (filter p R) ≤ length R
 length-filter p [] = omega arith
 length-filter p (s ∷ R) = length-filter-at p s R (p s) (length-filter p R)
+
+pub relation-exact : Relation-exact
+relation-exact o O l = (ascending-relation o O l, λ t. (of-relation o O l t, in-relation o O l t))
+
+pub relation-unique : Relation-unique
+relation-unique o O R Q a b f = same-members o O R Q a b (λ t. f t .0) (λ t. f t .1)

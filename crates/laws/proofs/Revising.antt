@@ -7,8 +7,8 @@ use Prim.Native.Nat.{ℕ, zero, suc}
 use Rattle.std.specs.declared.option.Option.{Option}
 use Rattle.model.specs.ColumnSets.{Apart, ColumnSet, has}
 use Rattle.model.specs.Revision.{Revised, revise, revise-by, revise-once, taken-from}
-use Rattle.model.specs.Sorts.{Agree, Column, Dependency, Meets-dep, Meets-deps, Shaped, agrees}
-use Rattle.model.specs.TreeForm.{in-order}
+use Rattle.model.specs.Sorts.{Agree, Column, Dependency, Meets-dep, Meets-deps, Shaped, Sort, agrees}
+use Rattle.model.specs.TreeForm.{Formed, in-order}
 use Rattle.model.specs.Values.{Relation, Tuple, cell, find, _∈_}
 use Rattle.laws.specs.Revision.{Revision-characterised}
 use Rattle.laws.proofs.Cells.{agree-sym, agree-trans, agrees-is, is-agrees, shaped-with, with-in, with-out, with-same}
@@ -87,7 +87,7 @@ revised-by C (d ∷ D) N SN MN IT m Sm =
     let U = turned C d N m SN Sm in
     both C d D N m (revise-once d N m) (revise-by D N (revise-once d N m)) MN IT U (revised-by C D N SN (λ e g. MN e (inr g)) (IT .2) (revise-once d N m) (U .shaped))
 
-pub revised : Revision-characterised
+pub revised : (S : Sort) → Formed S → (N : Relation) → All-shaped (S .columns) N → Meets-deps (S .deps) N → (m : Tuple) → Shaped (S .columns) m → Revised (S .deps) N m (revise (S .deps) N m)
 revised S F N SN MN m Sm =
     let D = S .deps in
     let R = revised-by (S .columns) (in-order D) N SN (λ d h. MN d (of-in-order D d h)) (in-order-turn D (F .tree) (F .sets-apart)) m Sm in
@@ -96,6 +96,9 @@ revised S F N SN MN m Sm =
       taken = λ d h. R .taken d (in-order-has D d h);
       left-alone = λ d h. R .left-alone d (in-order-has D d h);
     }
+
+pub revision-characterised : Revision-characterised
+revision-characterised S F N SN MN m Sm = (shaped-by (S .columns) (in-order (S .deps)) N m SN Sm, revised S F N SN MN m Sm)
 
 -- a row of a relation that meets the dependencies is left as it is by revision by some of its rows
 once-same : (C : List Column) (d : Dependency) (N I : Relation) (m : Tuple) → All-shaped C I → Meets-dep d I → ((n : Tuple) → n ∈ N → n ∈ I) → m ∈ I → (out : Option Tuple) → Found (agrees (d .left) m) N out → taken-from (d .right) m out ≡ m

@@ -7,3 +7,6 @@ pub mod Conditions
 pub mod Faults
 pub mod Views
 pub mod Promise
+pub mod Examples
+pub mod Puts
+pub mod Opening

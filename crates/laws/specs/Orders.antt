@@ -22,6 +22,10 @@ Relation-exact = (o : Order) → Total o → (l : List Tuple) → Ascending o (r
 abbrev pub Relation-unique : Type 0
 Relation-unique = (o : Order) → Total o → (R Q : Relation) → Ascending o R → Ascending o Q → ((t : Tuple) → (t ∈ R) ↔ (t ∈ Q)) → R ≡ Q
 
+-- an ascending relation is the relation of its tuples
+abbrev pub Relation-same : Type 0
+Relation-same = (o : Order) → Total o → (R : Relation) → Ascending o R → relation-of o R ≡ R
+
 -- the tests of equality and of membership
 pub record Equality-test : Type 0 where
   pub bytes : (a b : List ℕ) → (same-bytes a b ≡ true) ↔ (a ≡ b)

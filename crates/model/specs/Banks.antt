@@ -65,11 +65,11 @@ read-header size [] b = found tt b
 read-header size (x ∷ h) [] = bad 23 size
 read-header size (x ∷ h) (y ∷ b) = cond (eqb x y) (read-header size h b) (bad 24 (place-in size (y ∷ b)))
 
--- the number whose groups stand next, where `more` groups may come and those before make n
+-- the number whose groups, which are bytes, stand next, where `more` groups may come and those before make n
 abbrev pub read-groups : ℕ → ℕ → List ℕ → Option (ℕ × List ℕ)
 read-groups zero n b = None
 read-groups (suc more) n [] = None
-read-groups (suc more) n (x ∷ b) = cond (ltb x 0x80) (Some (n * 0x80 + x, b)) (read-groups more (n * 0x80 + (x - 0x80)) b)
+read-groups (suc more) n (x ∷ b) = cond (ltb x 0x80) (Some (n * 0x80 + x, b)) (cond (ltb x 0x100) (read-groups more (n * 0x80 + (x - 0x80)) b) None)
 
 -- A first group of 80 hexadecimal is padding.
 abbrev pub find-number : List ℕ → Option (ℕ × List ℕ)

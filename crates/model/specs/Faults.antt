@@ -1,5 +1,5 @@
 -- Faults, and the first of several.
-use Prim.Native.Nat.{ℕ}
+use Prim.Native.Nat.{ℕ, _+_}
 use Rattle.std.specs.declared.option.Option.{Option}
 use Rattle.std.specs.declared.option.Option.the-variants.{Some, None}
 
@@ -16,3 +16,8 @@ fault n k p = Some (record { number = n; kind = k; place = p })
 abbrev pub or-then : Option Fault → Option Fault → Option Fault
 or-then None g = g
 or-then (Some f) g = Some f
+
+-- a fault with n added to its place
+abbrev pub shifted : ℕ → Option Fault → Option Fault
+shifted n None = None
+shifted n (Some f) = Some (record { number = f .number; kind = f .kind; place = n + f .place })

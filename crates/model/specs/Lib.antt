@@ -22,3 +22,4 @@ pub mod Refusals
 pub mod Piles
 pub mod Ledger
 pub mod Promise
+pub mod Opening

@@ -48,8 +48,8 @@ places (dropping k a v) = places v
 places (renaming k w v) = places v
 places (joining v w) = places v ++ places w
 
--- The premises under which the laws hold: what each layer asks of what it stands on. Opening a view checks these and more:
--- known columns, equal kinds, the limits.
+-- The premises under which the laws hold: what each layer asks of what it stands on. Opening a view (Opening) checks these, and
+-- besides that columns are known, that comparisons are of like kinds, and the limits.
 abbrev pub Premises : Order → List Store → Pile → Type 0
 Premises o T (source p) = (p < length T) × Formed (table-at T p .sort)
 Premises o T (selecting P v) = Reads-no-output (rules o T v .sort) × Premises o T v

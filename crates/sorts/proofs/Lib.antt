@@ -2,3 +2,4 @@ pub mod Adding
 pub mod Refusing
 pub mod Wording
 pub mod Sizing
+pub mod Tabling

@@ -28,10 +28,13 @@ abbrev pub columns-fault : List Column → List Column → Option Fault
 columns-fault C [] = None
 columns-fault C (c ∷ more) = or-then (column-fault C c) (columns-fault (C ++ c ∷ []) more)
 
--- 4 for a table without columns
+-- the columns of a table: 4 for none
 abbrev pub no-columns-fault : List Column → Option Fault
 no-columns-fault [] = fault 4 0 0
 no-columns-fault (c ∷ C) = None
+
+abbrev pub all-columns-fault : List Column → Option Fault
+all-columns-fault C = or-then (no-columns-fault C) (columns-fault [] C)
 
 -- Of a caller with tables of these names: 4 for a ninth table, 5 for a name in use.
 abbrev pub name-used-fault : List (List ℕ) → List ℕ → Option Fault
@@ -41,11 +44,14 @@ name-used-fault T w = cond (ltb (length T) 8) (cond (any (λ t. same-bytes t w) 
 abbrev pub room-fault : ℕ → Option Fault
 room-fault room = cond (leb 1 room && leb room 128) None (fault 9 0 0)
 
+abbrev pub column-words : List Column → List (List ℕ)
+column-words C = map (λ c. c .word) C
+
 -- A table: its words, its name among the caller's, its columns, its room.
 abbrev pub table-fault : List (List ℕ) → List ℕ → List Column → ℕ → Option Fault
 table-fault T name C room =
-    or-then (words-fault (name ∷ map (λ c. c .word) C))
-    (or-then (name-used-fault T name) (or-then (no-columns-fault C) (or-then (columns-fault [] C) (room-fault room))))
+    or-then (words-fault (name ∷ column-words C))
+    (or-then (name-used-fault T name) (or-then (all-columns-fault C) (room-fault room)))
 
 -- A column that is added later: its word first.
 abbrev pub later-column-fault : List Column → Column → Option Fault
@@ -102,6 +108,9 @@ abbrev pub parts-fault : Sort → List Part → Option Fault
 parts-fault S P = cond (leb (length (S .parts ++ P)) 8) None (fault 4 0 0)
 
 -- what the description then is
+abbrev pub of-columns : List Column → Sort
+of-columns C = record { columns = C; deps = []; parts = [] }
+
 abbrev pub with-column : Sort → Column → Sort
 with-column S c = record { columns = S .columns ++ c ∷ []; deps = S .deps; parts = S .parts }
 

@@ -4,7 +4,12 @@ mod description;
 mod offered;
 mod sealing;
 mod sort;
+mod table;
+mod tables;
 
 pub use description::Description;
 pub use offered::NewColumn;
 pub use sort::Sort;
+pub use table::NewTable;
+pub use tables::Named;
+pub use tables::describe;

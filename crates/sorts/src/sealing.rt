@@ -1,17 +1,20 @@
 // How a description is sealed, and what a sealed sort is asked.
 ghost use mathlib.Core.Path.{_≡_};
 ghost use Prim.Native.Nat.{_≤_};
+ghost use mathlib.Core.List.{map};
 ghost use lib.ListN.{length};
 ghost use Rattle.std.specs.Of.Vec.{vec-items};
 ghost use Rattle.model.specs.Sorts.{admitted};
 ghost use Rattle.cells.specs.Held.{tuple};
+ghost use Rattle.columns.specs.Members.{dependencies};
 ghost use Rattle.columns.specs.Named.{named-columns};
 ghost use Rattle.sorts.specs.Described.{described};
-ghost use Rattle.sorts.specs.Sealed.{sealed, sort-of};
+ghost use Rattle.sorts.specs.Sealed.{narrowed, sealed, sort-of};
 use crate::description::Description;
 use crate::sort::Sort;
 use cells::Row;
 use columns::Column;
+use columns::Dependency;
 use conditions::WrittenCondition;
 use conditions::admits_all;
 
@@ -39,6 +42,13 @@ impl Sort {
         ensures few { λ r. ⌜ length (now r) ≤ 8 ⌝ }
     {
         self.columns.as_slice()
+    }
+
+    // The dependencies, which count below the number of columns.
+    pub fn deps(&self) -> &[Dependency]
+        ensures { λ r. ⌜ map (narrowed (length (sort-of (now (self .entry)) .columns))) (dependencies (now r)) ≡ sort-of (now (self .entry)) .deps ⌝ }
+    {
+        self.deps.as_slice()
     }
 
     // Whether every part of the condition admits the row.

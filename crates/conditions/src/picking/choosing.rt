@@ -7,7 +7,7 @@ ghost use Rattle.model.specs.Sorts.{of-kind};
 ghost use Rattle.model.specs.Values.{every};
 ghost use Rattle.cells.specs.Answering.{Answers};
 ghost use Rattle.cells.specs.Held.{kind-of, value};
-ghost use Rattle.conditions.specs.Picks.{is-cell, is-few, kind-of-value, of-first-kind, pick-fault, rising};
+ghost use Rattle.conditions.specs.Picks.{is-cell, is-few, kind-of-value, of-first-kind, pick-fault, rising, Picks-right};
 ghost use Rattle.conditions.specs.Picked.{chosen, sought};
 use super::Pick;
 use cells::Cause;
@@ -37,6 +37,13 @@ impl Pick {
         let word = Vec::from_slice(heap, word)?;
         Ok(Pick { word, cells })
     }
+}
+
+// No fault is due exactly to 1 to 32 ascending cells of one kind.
+pub fn picks_stand() -> u8
+    ensures { λ _. ⌜ Picks-right ⌝ }
+{
+    0
 }
 
 pub fn kind_of(cell: &Cell) -> Kind

@@ -1,0 +1,7 @@
+pub mod Fronts
+pub mod Texts
+pub mod Loops
+pub mod Coded
+pub mod Judged
+pub mod Agreeing
+pub mod Sound
