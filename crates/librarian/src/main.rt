@@ -7,12 +7,16 @@ use commands::Line;
 use commands::parse;
 use commands::split_line;
 use outcomes::Outcome;
+use session::Session;
 use std::alloc::AllocError;
 use std::env;
 use std::fs;
 use std::io;
 use std::io::Read;
 use std::io::Write;
+
+// A bank has at most 12 bytes before its rows, of which there are at most 128, of 8 texts of 17 bytes.
+const LARGEST_BANK: usize = 17_420;
 
 // The script: the file that the first argument names, or else the standard input.
 fn script(rt: &LibcRuntime) -> io::Result<Vec<u8>> {
@@ -69,16 +73,41 @@ fn write_file(rt: &LibcRuntime, path: &str, bytes: &[u8]) -> io::Result<()> {
     }
 }
 
-fn perform(_rt: &LibcRuntime, command: Command<'_>) -> Outcome {
+// Writes a bank to a file.
+fn written(rt: &LibcRuntime, bank: Outcome, path: &[u8]) -> Outcome {
+    match (bank, std::str::from_utf8(path)) {
+        (Outcome::Bank(bytes), Ok(path)) => match write_file(rt, path, bytes.as_slice()) {
+            Ok(()) => Outcome::Wrote(bytes.len()),
+            Err(_) => Outcome::NoFile,
+        },
+        (Outcome::Bank(_), Err(_)) => Outcome::NoFile,
+        (other, _) => other,
+    }
+}
+
+fn perform(
+    rt: &LibcRuntime,
+    session: &mut Session,
+    command: Command<'_>,
+) -> Result<Outcome, AllocError> {
+    let heap = rt.alloc();
     match command {
-        Command::Help => Outcome::Help,
-        Command::Fresh => Outcome::Fresh,
-        _ => Outcome::BadLine,
+        Command::Read { name, path } => session.read(heap, name, read_file(rt, path)),
+        Command::Write { name, path } => {
+            let bank = session.bank(heap, name, LARGEST_BANK)?;
+            Ok(written(rt, bank, path))
+        }
+        other => session.perform(heap, other),
     }
 }
 
 // Runs a line, and gives back what is left of the lines behind it.
-fn step<'a>(rt: &LibcRuntime, line: &[u8], behind: &'a [u8]) -> io::Result<&'a [u8]>
+fn step<'a>(
+    rt: &LibcRuntime,
+    session: &mut Session,
+    line: &[u8],
+    behind: &'a [u8],
+) -> io::Result<&'a [u8]>
     ensures { λ r. ⌜ made r (λ rest. length (now rest) ≤ length (now (behind .entry))) ⌝ }
 {
     match parse(rt.alloc(), line) {
@@ -92,7 +121,10 @@ fn step<'a>(rt: &LibcRuntime, line: &[u8], behind: &'a [u8]) -> io::Result<&'a [
                 Command::Try { count } | Command::Put { count } => past_lines(behind, *count),
                 _ => behind,
             };
-            print(rt, perform(rt, command))?;
+            match perform(rt, session, command) {
+                Ok(outcome) => print(rt, outcome)?,
+                Err(AllocError) => print(rt, Outcome::NoMemory)?,
+            }
             Ok(rest)
         }
         Err(AllocError) => {
@@ -103,10 +135,11 @@ fn step<'a>(rt: &LibcRuntime, line: &[u8], behind: &'a [u8]) -> io::Result<&'a [
 }
 
 fn run(rt: &LibcRuntime, script: &[u8]) -> io::Result<()> {
+    let mut session = Session::new(rt.alloc());
     let mut rest = script;
     while !rest.is_empty() {
         let (line, behind) = split_line(rest);
-        rest = step(rt, line, behind)?;
+        rest = step(rt, &mut session, line, behind)?;
     }
     Ok(())
 }

@@ -2,16 +2,17 @@
 use mathlib.Core.Path.{_≡_, refl, sym, ap, subst, _∙_}
 use mathlib.Core.List.{List, [], _∷_, _++_, map}
 use mathlib.Core.Bool.{Bool, true, false, cond, _||_}
-use Prim.Native.Nat.{ℕ, _+_, _≤_, _<_}
+use Prim.Native.Nat.{ℕ, suc, _+_, _≤_, _<_}
 use native.Mathlib.Omega.{arith}
 use lib.Dec.{ltb}
-use lib.ListN.{length, getD, take, drop}
+use lib.ListN.{length, getD, set, take, drop}
+use native.Mathlib.Numerals.{add-one}
 use Rattle.std.specs.declared.option.Option.{Option}
 use Rattle.std.specs.declared.option.Option.the-variants.{Some, None}
-use Rattle.std.proofs.shelf.Lists.{drop-more, drop-all, take-more, take-all, map-push, length-map}
+use Rattle.std.proofs.shelf.Lists.{drop-more, drop-all, take-more, map-push, length-map, append-assoc, getD-default, set-split, take-map, drop-map}
 use Rattle.std.proofs.shelf.Tests.{cond-true, cond-false, lt-ltb, le-ltb, or-left}
 use Rattle.model.specs.Faults.{Fault, fault, or-then}
-use Rattle.model.specs.Values.{any, same-bytes}
+use Rattle.model.specs.Values.{Relation, any, same-bytes}
 use Rattle.model.specs.Words.{is-name}
 use Rattle.model.specs.Sorts.{Column, Sort}
 use Rattle.cells.specs.Worded.{letters, name-fault}
@@ -24,7 +25,7 @@ use Rattle.cells.specs.Answering.{Answers}
 use Rattle.cells.specs.declared.faults.Refusal.{Refusal}
 use Rattle.sorts.specs.declared.description.Description.{Description}
 use Rattle.session.proofs.Refusing.{passes}
-use Rattle.session.specs.Callers.{names, stored, named}
+use Rattle.session.specs.Callers.{names, stored, named, Kept, holding, with-rows, Placed}
 use Rattle.session.specs.declared.tables.Table.{Table}
 
 -- the words of columns
@@ -123,12 +124,37 @@ module _ (cs : List NewColumn) (i : ℕ) (d : NewColumn) (S : Sort) (lt : i < le
     left ∙ columns-more cs i d lt ∙ ap (λ o. or-then o (columns-fault (offered-columns (take (i + 1) cs)) (offered-columns (drop (i + 1) cs)))) (sym later-is ∙ e),
   )
 
--- the tables of a name
-pub found-more : (n : List ℕ) (ts : List Table) (i : ℕ) (d : Table) → i < length ts → same-bytes (letters (getD ts i d .name)) n ≡ false → named n (drop i ts) ≡ named n (drop (i + 1) ts)
-found-more n ts i d h e = ap (named n) (drop-more ts i d h) ∙ cond-false (same-bytes (letters (getD ts i d .name)) n) _ _ e
+-- the first i tables do not have the name
+abbrev pub Sought : List ℕ → List Table → ℕ → Type 0
+Sought n ts i = (named n ts ≡ named n (drop i ts)) × ((R : Relation) → with-rows n R (map stored ts) ≡ map stored (take i ts) ++ with-rows n R (map stored (drop i ts)))
 
-pub found-stop : (n : List ℕ) (ts : List Table) (i : ℕ) (d : Table) → i < length ts → same-bytes (letters (getD ts i d .name)) n ≡ true → named n (drop i ts) ≡ Some (stored (getD ts i d))
-found-stop n ts i d h e = ap (named n) (drop-more ts i d h) ∙ cond-true (same-bytes (letters (getD ts i d .name)) n) _ _ e
+pub sought-none : (n : List ℕ) (ts : List Table) → Sought n ts 0
+sought-none n ts = (refl, λ R. refl)
 
-pub found-end : (n : List ℕ) (ts : List Table) (i : ℕ) → length ts ≤ i → named n (drop i ts) ≡ None
-found-end n ts i h = ap (named n) (drop-all i ts h)
+module _ (n : List ℕ) (ts : List Table) (i : ℕ) (x : Table) (lt : i < length ts) (is : x ≡ getD ts i x) (h : Sought n ts i) where
+  next-is : drop i ts ≡ x ∷ drop (i + 1) ts
+  next-is = drop-more ts i x lt ∙ ap (λ t. t ∷ drop (i + 1) ts) (sym is)
+
+  pub sought-more : same-bytes (letters (x .name)) n ≡ false → Sought n ts (i + 1)
+  sought-more e =
+      (
+        h .0 ∙ ap (named n) next-is ∙ cond-false (same-bytes (letters (x .name)) n) _ _ e,
+        λ R. h .1 R ∙ ap (λ l. map stored (take i ts) ++ with-rows n R (map stored l)) next-is ∙ ap (λ l. map stored (take i ts) ++ l) (cond-false (same-bytes (letters (x .name)) n) _ _ e) ∙ sym (append-assoc (map stored (take i ts)) (stored x ∷ []) (with-rows n R (map stored (drop (i + 1) ts)))) ∙ ap (λ l. l ++ with-rows n R (map stored (drop (i + 1) ts))) (sym (ap (map stored) (take-more ts i x lt ∙ ap (λ t. take i ts ++ (t ∷ [])) (sym is)) ∙ map-push stored (take i ts) x)),
+      )
+
+  pub sought-stop : same-bytes (letters (x .name)) n ≡ true → Placed ts n (Some i)
+  sought-stop e =
+      (
+        lt,
+        λ d. h .0 ∙ ap (named n) next-is ∙ cond-true (same-bytes (letters (x .name)) n) _ _ e ∙ ap (λ t. Some (stored t)) (same d),
+        λ d R. h .1 R ∙ ap (λ l. map stored (take i ts) ++ with-rows n R (map stored l)) next-is ∙ ap (λ l. map stored (take i ts) ++ l) (cond-true (same-bytes (letters (x .name)) n) _ _ e) ∙ ap (λ t. map stored (take i ts) ++ (holding (stored t) R ∷ map stored (drop (i + 1) ts))) (same d) ∙ sym (written (holding (stored (getD ts i d)) R)),
+      )
+    where
+      same : (d : Table) → x ≡ getD ts i d
+      same d = is ∙ getD-default ts i x d lt
+      written : (v : Kept) → set (map stored ts) i v ≡ map stored (take i ts) ++ (v ∷ map stored (drop (i + 1) ts))
+      written v =
+          set-split (map stored ts) i v (omega (arith, length-map ts stored)) ∙ ap (λ l. l ++ (v ∷ drop (suc i) (map stored ts))) (take-map stored i ts) ∙ ap (λ l. map stored (take i ts) ++ (v ∷ l)) (drop-map stored (suc i) ts ∙ ap (λ k. map stored (drop k ts)) (sym (add-one i)))
+
+pub sought-end : (n : List ℕ) (ts : List Table) (i : ℕ) → length ts ≤ i → Sought n ts i → Placed ts n None
+sought-end n ts i le h = h .0 ∙ ap (named n) (drop-all i ts le)

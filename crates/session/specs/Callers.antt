@@ -4,7 +4,7 @@ use mathlib.Core.List.{List, [], _∷_, _++_, map}
 use mathlib.Core.Bool.{Bool, cond}
 use Prim.Native.Nat.{ℕ, _+_, _-_, _/_, min, _<_}
 use lib.Dec.{leb}
-use lib.ListN.{length, getD}
+use lib.ListN.{length, getD, set}
 use Rattle.std.specs.declared.option.Option.{Option}
 use Rattle.std.specs.declared.option.Option.the-variants.{Some, None}
 use Rattle.std.specs.Options.{mapped}
@@ -12,6 +12,10 @@ use Rattle.std.specs.Of.Vec.{vec-items}
 use Rattle.model.specs.Values.{Relation, find, same-bytes}
 use Rattle.model.specs.Sorts.{Kind, numbers, texts, Column, Sort}
 use Rattle.model.specs.Faults.{Fault}
+use Rattle.model.specs.Tables.{Store}
+use Rattle.model.specs.Banks.{Reading}
+use Rattle.model.specs.Banks as banks
+use Rattle.banks.specs.Sheets.{store, relation}
 use Rattle.cells.specs.Held.{tuples}
 use Rattle.cells.specs.Numbered.{told}
 use Rattle.cells.specs.Worded.{letters}
@@ -73,6 +77,10 @@ pub record Caller : Type 0 where
   pub tables : List Kept
   pub draft : Option Drafted
 
+-- what a store holds under a name
+abbrev pub keeping : List ℕ → Store → Relation → Kept
+keeping n s R = record { name = n; kind = s .kind; sort = s .sort; room = s .room; rows = R }
+
 abbrev pub names : List Kept → List (List ℕ)
 names T = map (λ t. t .name) T
 
@@ -82,7 +90,7 @@ is-named n t = same-bytes (t .name) n
 
 -- what is held in the program
 abbrev pub stored : Table → Kept
-stored t = record { name = letters (t .name); kind = t .kind; sort = sealing.sort-of (t .sort); room = t .room; rows = tuples (vec-items (t .rows)) }
+stored t = keeping (letters (t .name)) (store (t .sheet)) (relation (t .sheet))
 
 abbrev pub drafted : Draft → Drafted
 drafted d = record { name = letters (d .name); storage = d .storage; room = d .room; sort = described (d .description) }
@@ -144,9 +152,9 @@ abbrev pub dependency-reply : Caller → List (List ℕ) → List (List ℕ) →
 dependency-reply c L R =
     when-describing c (λ d. unless-fault (dependency-fault (d .sort) L R) c (drafting c (describes d (with-dependency (d .sort) (named-dependency (d .sort .columns) L R)))))
 
--- a sealed table begins empty
+-- a sealed table begins empty, and has room for no more than 128 rows
 abbrev pub begun : Drafted → Kept
-begun d = record { name = d .name; kind = kind-number (d .storage); sort = sealing.sealed (d .sort); room = room-in (d .storage) (d .room) (d .sort .columns); rows = [] }
+begun d = record { name = d .name; kind = kind-number (d .storage); sort = sealing.sealed (d .sort); room = min (room-in (d .storage) (d .room) (d .sort .columns)) 128; rows = [] }
 
 abbrev pub seal-reply : Caller → Reply
 seal-reply c = when-describing c (λ d. (sealed (begun d .room), record { tables = c .tables ++ (begun d ∷ []); draft = None }))
@@ -161,6 +169,36 @@ on-table c name f = when-idle c (on-found (find (is-named name) (c .tables)) c f
 
 abbrev pub rows-reply : Caller → List ℕ → Reply
 rows-reply c name = on-table c name (λ t. (rows (t .rows), c))
+
+-- A bank takes the place of the rows, or is refused.
+abbrev pub holding : Kept → Relation → Kept
+holding t R = record { name = t .name; kind = t .kind; sort = t .sort; room = t .room; rows = R }
+
+abbrev pub with-rows : List ℕ → Relation → List Kept → List Kept
+with-rows n R [] = []
+with-rows n R (t ∷ T) = cond (is-named n t) (holding t R ∷ T) (t ∷ with-rows n R T)
+
+abbrev pub loaded : Caller → List ℕ → Reading → Reply
+loaded c n (banks.accepted R) = (ok, record { tables = with-rows n R (c .tables); draft = c .draft })
+loaded c n (banks.refused f) = (refused f, c)
+
+abbrev pub load-reply : Caller → List ℕ → List ℕ → Reply
+load-reply c name b = on-table c name (λ t. loaded c name (banks.read-bank (t .kind) (t .sort) (t .room) b))
+
+-- the bank of a table, where its bytes are not too few
+abbrev pub bank-answer : ℕ → List ℕ → Answer
+bank-answer n b = cond (leb (length b) n) (bank b) (refused (record { number = 26; kind = 0; place = 0 }))
+
+abbrev pub bank-reply : Caller → List ℕ → ℕ → Reply
+bank-reply c name n = on-table c name (λ t. (bank-answer n (banks.bank (t .sort .columns) (t .rows)), c))
+
+-- a bank from a file, if there is one
+abbrev pub from-file : Caller → (List ℕ → Reply) → Option (List ℕ) → Reply
+from-file c f None = (no-file, c)
+from-file c f (Some b) = f b
+
+abbrev pub read-reply : Caller → List ℕ → Option (List ℕ) → Reply
+read-reply c name file = on-table c name (λ t. from-file c (λ b. loaded c name (banks.read-bank (t .kind) (t .sort) (t .room) b)) file)
 
 -- what the program's outcome tells
 abbrev pub answer : Outcome → Answer
@@ -198,7 +236,10 @@ named n ts = find (is-named n) (map stored ts)
 
 abbrev pub Placed : List Table → List ℕ → Option ℕ → Type 0
 Placed ts n None = named n ts ≡ None
-Placed ts n (Some i) = (i < length ts) × ((d : Table) → named n ts ≡ Some (stored (getD ts i d)))
+Placed ts n (Some i) =
+    (i < length ts)
+    × ((d : Table) → named n ts ≡ Some (stored (getD ts i d)))
+    × ((d : Table) (R : Relation) → with-rows n R (map stored ts) ≡ set (map stored ts) i (holding (stored (getD ts i d)) R))
 
 -- What comes of each command. Those that are not there yet are bad lines.
 abbrev pub reply : Caller → Asked → Reply
@@ -208,8 +249,8 @@ reply c asked.seal = seal-reply c
 reply c (asked.table name storage room C) = table-reply c name storage room C
 reply c (asked.column e) = column-reply c e
 reply c (asked.dep L R) = dependency-reply c L R
-reply c (asked.load name b) = (bad-line, c)
-reply c (asked.bank name n) = (bad-line, c)
+reply c (asked.load name b) = load-reply c name b
+reply c (asked.bank name n) = bank-reply c name n
 reply c (asked.rows name) = rows-reply c name
 reply c (asked.read name path) = (bad-line, c)
 reply c (asked.write name path) = (bad-line, c)

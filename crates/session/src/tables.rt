@@ -1,18 +1,14 @@
 //! What a caller holds.
-use cells::Row;
+use banks::Sheet;
 use cells::Word;
 use commands::Storage;
 use sorts::Description;
-use sorts::Sort;
 
-// A stored table: its kind number, its sort, its room and its rows.
+// A stored table: its name and its rows, with their kind number, sort and room.
 #[derive(Drop)]
 pub struct Table {
     pub(crate) name: Word,
-    pub(crate) kind: u8,
-    pub(crate) sort: Sort,
-    pub(crate) room: usize,
-    pub(crate) rows: Vec<Row>,
+    pub(crate) sheet: Sheet,
 }
 
 // A table under description.

@@ -1,26 +1,12 @@
-use mathlib.Core.Path.{_≡_, sym, ap, _∙_}
-use Rattle.std.specs.declared.option.Option.the-variants.{Some}
-use Rattle.std.proofs.shelf.Lists.{getD-default}
-use Rattle.model.specs.Values.{same-bytes}
-use Rattle.cells.specs.Worded.{letters}
-use Rattle.session.specs.Callers.{stored}
-use Rattle.session.proofs.Checks.{found-more, found-stop, found-end}
+use mathlib.Core.Path.{sym}
+use Rattle.session.proofs.Checks.{sought-more, sought-stop, sought-end}
 use Rattle.session.proofs.working.place_of.Needs as need
 
 pub returns-then-is : need.returns-then-is
-returns-then-is c =
-    let n = c .args .name .now in
-    let ts = c .args .tables .now in
-    let i = c .loop-i .i in
-    let x = c .index-tables-i .result in
-    let here = sym (ap (λ t. same-bytes (letters (t .name)) n) (c .index-tables-i .is)) ∙ sym (c .if-is .ensures tt) in
-    (c .loop-i-test .taken, λ d. c .loop-i .inv ∙ found-stop n ts i x (c .loop-i-test .taken) here ∙ ap (λ t. Some (stored t)) (getD-default ts i x d (c .loop-i-test .taken)))
+returns-then-is c = sought-stop (c .args .name .now) (c .args .tables .now) (c .loop-i .i) (c .index-tables-i .result) (c .loop-i-test .taken) (c .index-tables-i .is) (c .loop-i .inv) (sym (c .if-is .ensures tt))
 
 pub loop-i-again : need.loop-i-again
-loop-i-again c =
-    let n = c .args .name .now in
-    let here = sym (ap (λ t. same-bytes (letters (t .name)) n) (c .index-tables-i .is)) ∙ sym (c .if-is .ensures tt) in
-    c .loop-i .inv ∙ found-more n (c .args .tables .now) (c .loop-i .i) (c .index-tables-i .result) (c .loop-i-test .taken) here
+loop-i-again c = sought-more (c .args .name .now) (c .args .tables .now) (c .loop-i .i) (c .index-tables-i .result) (c .loop-i-test .taken) (c .index-tables-i .is) (c .loop-i .inv) (sym (c .if-is .ensures tt))
 
 pub returns : need.returns
-returns c = c .loop-i .inv ∙ found-end (c .args .name .now) (c .args .tables .now) (c .loop-i .i) (c .loop-i-test .left)
+returns c = sought-end (c .args .name .now) (c .args .tables .now) (c .loop-i .i) (c .loop-i-test .left) (c .loop-i .inv)
