@@ -136,22 +136,21 @@ module _ (n : List ℕ) (ts : List Table) (i : ℕ) (x : Table) (lt : i < length
   next-is = drop-more ts i x lt ∙ ap (λ t. t ∷ drop (i + 1) ts) (sym is)
 
   pub sought-more : same-bytes (letters (x .name)) n ≡ false → Sought n ts (i + 1)
-  sought-more e =
-      (
-        h .0 ∙ ap (named n) next-is ∙ cond-false (same-bytes (letters (x .name)) n) _ _ e,
-        λ R. h .1 R ∙ ap (λ l. map stored (take i ts) ++ with-rows n R (map stored l)) next-is ∙ ap (λ l. map stored (take i ts) ++ l) (cond-false (same-bytes (letters (x .name)) n) _ _ e) ∙ sym (append-assoc (map stored (take i ts)) (stored x ∷ []) (with-rows n R (map stored (drop (i + 1) ts)))) ∙ ap (λ l. l ++ with-rows n R (map stored (drop (i + 1) ts))) (sym (ap (map stored) (take-more ts i x lt ∙ ap (λ t. take i ts ++ (t ∷ [])) (sym is)) ∙ map-push stored (take i ts) x)),
-      )
+  sought-more e = (
+    h .0 ∙ ap (named n) next-is ∙ cond-false (same-bytes (letters (x .name)) n) _ _ e,
+    λ R. h .1 R ∙ ap (λ l. map stored (take i ts) ++ with-rows n R (map stored l)) next-is ∙ ap (λ l. map stored (take i ts) ++ l) (cond-false (same-bytes (letters (x .name)) n) _ _ e) ∙ sym (append-assoc (map stored (take i ts)) (stored x ∷ []) (with-rows n R (map stored (drop (i + 1) ts)))) ∙ ap (λ l. l ++ with-rows n R (map stored (drop (i + 1) ts))) (sym (ap (map stored) (take-more ts i x lt ∙ ap (λ t. take i ts ++ (t ∷ [])) (sym is)) ∙ map-push stored (take i ts) x)),
+  )
 
   pub sought-stop : same-bytes (letters (x .name)) n ≡ true → Placed ts n (Some i)
-  sought-stop e =
-      (
-        lt,
-        λ d. h .0 ∙ ap (named n) next-is ∙ cond-true (same-bytes (letters (x .name)) n) _ _ e ∙ ap (λ t. Some (stored t)) (same d),
-        λ d R. h .1 R ∙ ap (λ l. map stored (take i ts) ++ with-rows n R (map stored l)) next-is ∙ ap (λ l. map stored (take i ts) ++ l) (cond-true (same-bytes (letters (x .name)) n) _ _ e) ∙ ap (λ t. map stored (take i ts) ++ (holding (stored t) R ∷ map stored (drop (i + 1) ts))) (same d) ∙ sym (written (holding (stored (getD ts i d)) R)),
-      )
+  sought-stop e = (
+    lt,
+    λ d. h .0 ∙ ap (named n) next-is ∙ cond-true (same-bytes (letters (x .name)) n) _ _ e ∙ ap (λ t. Some (stored t)) (same d),
+    λ d R. h .1 R ∙ ap (λ l. map stored (take i ts) ++ with-rows n R (map stored l)) next-is ∙ ap (λ l. map stored (take i ts) ++ l) (cond-true (same-bytes (letters (x .name)) n) _ _ e) ∙ ap (λ t. map stored (take i ts) ++ (holding (stored t) R ∷ map stored (drop (i + 1) ts))) (same d) ∙ sym (written (holding (stored (getD ts i d)) R)),
+  )
     where
       same : (d : Table) → x ≡ getD ts i d
       same d = is ∙ getD-default ts i x d lt
+
       written : (v : Kept) → set (map stored ts) i v ≡ map stored (take i ts) ++ (v ∷ map stored (drop (i + 1) ts))
       written v =
           set-split (map stored ts) i v (omega (arith, length-map ts stored)) ∙ ap (λ l. l ++ (v ∷ drop (suc i) (map stored ts))) (take-map stored i ts) ∙ ap (λ l. map stored (take i ts) ++ (v ∷ l)) (drop-map stored (suc i) ts ∙ ap (λ k. map stored (drop k ts)) (sym (add-one i)))

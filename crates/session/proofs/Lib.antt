@@ -2,3 +2,4 @@ pub mod Refusing
 pub mod Widths
 pub mod Checks
 pub mod Steps
+pub mod Loads

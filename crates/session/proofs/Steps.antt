@@ -53,8 +53,7 @@ module _ (c : Caller) (d : Drafted) (e : c .draft ≡ Some d) (due : Drafted →
 -- a draft that is sealed
 pub seal-step : (c : Caller) (d : Drafted) (t : Kept) (n : ℕ) (T : List Kept) (o : Option Drafted) → c .draft ≡ Some d → t ≡ begun d → n ≡ begun d .room → T ≡ c .tables ++ (t ∷ []) → o ≡ None → (sealed n ≡ seal-reply c .0) × (record { tables = T; draft = o } ≡ seal-reply c .1)
 seal-step c d t n T o e k r m z =
-    let is = ap (λ x. on-draft x c (λ y. (sealed (begun y .room), record { tables = c .tables ++ (begun y ∷ []); draft = None }))) e in
-    (
+    let is = ap (λ x. on-draft x c (λ y. (sealed (begun y .room), record { tables = c .tables ++ (begun y ∷ []); draft = None }))) e in (
       ap sealed r ∙ sym (ap (λ x. x .0) is),
       ap (λ x. record { tables = x; draft = o }) (m ∙ ap (λ x. c .tables ++ (x ∷ [])) k) ∙ ap (λ x. record { tables = c .tables ++ (begun d ∷ []); draft = x }) z ∙ sym (ap (λ x. x .1) is),
     )

@@ -241,7 +241,8 @@ Placed ts n (Some i) =
     × ((d : Table) → named n ts ≡ Some (stored (getD ts i d)))
     × ((d : Table) (R : Relation) → with-rows n R (map stored ts) ≡ set (map stored ts) i (holding (stored (getD ts i d)) R))
 
--- What comes of each command. Those that are not there yet are bad lines.
+-- What comes of each command. Banks in files are read and written by calls of their own, and commands that are not there
+-- yet are bad lines.
 abbrev pub reply : Caller → Asked → Reply
 reply c asked.help = (help, c)
 reply c asked.fresh = (fresh, fresh-caller)

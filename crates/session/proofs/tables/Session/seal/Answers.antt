@@ -9,6 +9,6 @@ use Rattle.session.proofs.tables.Session.seal.Needs as need
 
 pub returns-in-Some : need.returns-in-Some
 returns-in-Some c =
-    let table = c .sealed .result .0 in
+    let table = c .sealed-table .result .0 in
     let tables = c .push-reserved .ensures .items ∙ ap (λ l. l ++ (table ∷ [])) (c .in-Continue-reserve .ensures tt .items) in
-    seal-step (caller (c .args .self .now)) (drafted (c .in-Some .draft)) (stored table) _ _ _ (sym (ap (mapped drafted) (c .in-Some .ensures tt .value))) (c .sealed .ensures .0) (c .sealed .ensures .1) (ap (map stored) tables ∙ map-push stored (vec-items (c .args .self .now .tables)) table) (ap (mapped drafted) (c .take .ensures .after))
+    seal-step (caller (c .args .self .now)) (drafted (c .in-Some .draft)) (stored table) _ _ _ (sym (ap (mapped drafted) (c .in-Some .ensures tt .value))) (c .sealed-table .ensures .0) (c .sealed-table .ensures .1) (ap (map stored) tables ∙ map-push stored (vec-items (c .args .self .now .tables)) table) (ap (mapped drafted) (c .take .ensures .after))
