@@ -3,3 +3,4 @@ pub mod Refusing
 pub mod Wording
 pub mod Sizing
 pub mod Tabling
+pub mod Parting

@@ -3,10 +3,13 @@ ghost use mathlib.Core.Path.{_≡_};
 ghost use mathlib.Core.List.{[]};
 ghost use Rattle.std.specs.Results.{Cases};
 ghost use Rattle.cells.specs.Answering.{Answers};
+ghost use Rattle.model.specs.Conditions.{parts-of};
+ghost use Rattle.model.specs.Orders.{by-bytes};
 ghost use Rattle.model.specs.Values.{any, same-bytes};
+ghost use Rattle.conditions.specs.Meaning.{meaning};
 ghost use Rattle.columns.specs.Members.{members, dependency, dependencies};
 ghost use Rattle.columns.specs.Named.{named-columns};
-ghost use Rattle.sorts.specs.Describing.{column-fault, later-column-fault, with-column, unknown-fault, twice-fault, sizes-fault, named-set, same-dependency, form-fault, named-dependency, dependency-fault, with-dependency};
+ghost use Rattle.sorts.specs.Describing.{column-fault, later-column-fault, with-column, unknown-fault, twice-fault, sizes-fault, named-set, same-dependency, form-fault, named-dependency, dependency-fault, with-dependency, parts-fault, with-parts};
 ghost use Rattle.sorts.specs.Described.{described};
 ghost use Rattle.sorts.specs.Offered.{words, offered-column};
 use crate::description::Description;
@@ -21,6 +24,7 @@ use columns::ColumnSet;
 use columns::Dependency;
 use columns::has_tree_form;
 use columns::place_of;
+use conditions::Written;
 use std::alloc::Global;
 
 // One column more: a ninth, or a word that is used already, is refused.
@@ -181,6 +185,19 @@ impl Description {
     {
         let d = self.dependency(heap, left, right)?;
         self.deps.push(d)?;
+        Ok(())
+    }
+
+    // The parts of a condition more.
+    pub fn add_condition(&mut self, heap: Global, condition: Written) -> Result<(), Refusal>
+        ensures answers { λ r. ⌜ Answers (parts-fault (described (now (self .entry))) (parts-of by-bytes (meaning condition))) (λ _. described (now (self .exit)) ≡ with-parts (described (now (self .entry))) (parts-of by-bytes (meaning condition))) r ⌝ }
+        ensures kept { λ r. ⌜ Cases r (λ _. Unit {0}) (λ _. described (now (self .exit)) ≡ described (now (self .entry))) ⌝ }
+    {
+        let mut parts = condition.into_parts(heap)?;
+        if self.parts.len().saturating_add(parts.len()) > 8 {
+            return Err(Refusal::of(Cause::Limit));
+        }
+        self.parts.append(&mut parts)?;
         Ok(())
     }
 }
