@@ -1,4 +1,5 @@
 pub mod Lists
 pub mod Spelling
 pub mod Lines
+pub mod Grammar
 pub mod Forms

@@ -1,8 +1,11 @@
 -- Lines and their tokens.
-use mathlib.Core.List.{List, [], _∷_, _++_}
+use mathlib.Core.List.{List, [], _∷_, _++_, map}
 use mathlib.Core.Bool.{Bool, true, false, cond, not, _&&_, _||_}
-use Prim.Native.Nat.{ℕ}
+use mathlib.Core.Path.{_≡_}
+use Prim.Native.Nat.{ℕ, _<_}
 use lib.Dec.{leb, eqb}
+use lib.ListN.{length}
+use denote.Ref.{RefT}
 use Rattle.std.specs.declared.option.Option.{Option}
 use Rattle.std.specs.declared.option.Option.the-variants.{Some, None}
 use Rattle.std.specs.Options.{mapped}
@@ -43,6 +46,10 @@ abbrev pub bounded : List ℕ → Bool
 bounded [] = true
 bounded (b ∷ l) = is-space b
 
+abbrev pub is-quoted : List ℕ → Bool
+is-quoted [] = false
+is-quoted (b ∷ l) = is-quote b
+
 -- How far a reader is: between tokens, in a plain token or in quotes with what it has read of it, or past the closing quote.
 pub data Reader : Type 0 where
   between : Reader
@@ -66,6 +73,15 @@ read closed (b ∷ l) = cond (is-space b) (read between l) None
 -- the tokens of a text, or none where one is malformed
 abbrev pub tokens-of : List ℕ → Option (List Lexeme)
 tokens-of l = read between l
+
+-- Some tokens are the first token of a text of some length, and those of what stands behind it.
+abbrev pub Leads : Option (List Lexeme) → List ℕ → Option (Token × RefT (List ℕ)) → Type 0
+Leads ts text None = ts ≡ None
+Leads ts text (Some p) = (ts ≡ lead (lexeme (p .0)) (tokens-of (p .1 .now))) × (length (p .1 .now) < length text)
+
+-- the words that references hold
+abbrev pub texts : List (RefT (List ℕ)) → List (List ℕ)
+texts ws = map (λ w. w .now) ws
 
 -- the tokens of a text of plain tokens only
 abbrev pub plain-word : Lexeme → Option (List ℕ)

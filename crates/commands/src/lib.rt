@@ -4,8 +4,6 @@ pub mod parsing;
 pub mod tokens;
 
 pub use parsing::Command;
-pub use parsing::Heading;
-pub use parsing::Kind;
 pub use parsing::Line;
 pub use parsing::Storage;
 pub use parsing::parse;

@@ -1,0 +1,21 @@
+use mathlib.Core.Path.{_≡_, sym, ap, _∙_}
+use borrow.Author.Needs.{needs}
+use lib.ListN.{length}
+use Rattle.std.specs.Options.{mapped}
+use Rattle.commands.specs.Forms.{bank, bank-said}
+use Rattle.commands.proofs.Shapes.{at, two-is, two-not}
+use Rattle.commands.proofs.parsing.bank.Needs as need
+use Rattle.commands.proofs.parsing.bank.Needs.{in-rest·by·then-words-lt2, in-rest·by·else-words-lt2·else-words-lt3}
+
+pub returns-in-rest : need.returns-in-rest
+returns-in-rest c = sym (two-not _ (c .args .words .now) (elim (c .in-rest .came) [ in-rest·by·then-words-lt2 w ↦ search needs | in-rest·by·else-words-lt2·else-words-lt3 w ↦ search needs ]))
+
+pub returns-in-rest-number : need.returns-in-rest-number
+returns-in-rest-number c =
+    let two : length (c .args .words .now) ≡ 2 = search needs in
+    sym (ap bank-said (two-is (c .args .words .now) two) ∙ ap (mapped (bank (at (c .args .words .now) 0))) (sym (c .in-rest-number .ensures tt)))
+
+pub returns : need.returns
+returns c =
+    let two : length (c .args .words .now) ≡ 2 = search needs in
+    sym (ap bank-said (two-is (c .args .words .now) two) ∙ ap (mapped (bank (at (c .args .words .now) 0))) (sym (c .in-Some .ensures tt)))

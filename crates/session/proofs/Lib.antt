@@ -1,0 +1,5 @@
+pub mod Refusing
+pub mod Widths
+pub mod Checks
+pub mod Steps
+pub mod Loads
