@@ -1,4 +1,3 @@
-pub mod Refusing
 pub mod Widths
 pub mod Checks
 pub mod Steps
