@@ -5,9 +5,14 @@ use crate::sheet::Sheet;
 use cells::Cause;
 use cells::CauseDebug;
 use cells::CausePartialEq;
+use cells::Cell;
 use cells::Kind;
 use cells::Refusal;
 use cells::RefusalDebug;
+use cells::Word;
+use columns::Column;
+use conditions::Comparison;
+use conditions::Written;
 use sorts::Description;
 use sorts::NewColumn;
 use sorts::Sort;
@@ -15,7 +20,7 @@ use std::alloc::Global;
 use std::test::*;
 
 // a text and a number, which depends on the text
-fn songs(heap: Global) -> Result<Sort, Refusal> {
+fn described(heap: Global) -> Result<Description, Refusal> {
     let mut songs = Description::new(heap);
     songs.add_column(
         heap,
@@ -32,7 +37,11 @@ fn songs(heap: Global) -> Result<Sort, Refusal> {
         },
     )?;
     songs.add_dependency(heap, &[b"title"], &[b"length"])?;
-    Ok(songs.seal())
+    Ok(songs)
+}
+
+fn songs(heap: Global) -> Result<Sort, Refusal> {
+    Ok(described(heap)?.seal())
 }
 
 const GLASS: [u8; 13] = [
@@ -133,4 +142,26 @@ fn refusals(rt: LibcRuntime) -> Result<(), Fail> {
         }
     }
     Ok(())
+}
+
+// of songs that are shorter than 200, Glass is none
+#[test]
+fn not_admitted(rt: LibcRuntime) -> Result<(), Fail> {
+    let heap = rt.alloc();
+    let mut songs = described(heap)?;
+    let word = Word::new(heap, b"title")?;
+    let kind = Kind::Text;
+    let mut columns = vec![in heap; Column { word, kind }]?;
+    let word = Word::new(heap, b"length")?;
+    let kind = Kind::Num;
+    columns.push(Column { word, kind })?;
+    let limit = Cell::Num(200);
+    let shorter = Written::with_cell(&columns, b"length", Comparison::Less, limit, 0, 0)?;
+    songs.add_condition(heap, shorter)?;
+    match read_bank(heap, 2, &songs.seal(), 4, &GLASS) {
+        Err(Refusal::Fault(fault)) => check(
+            fault.cause == Cause::NotAdmitted && fault.kind == 2 && fault.place == 0,
+        ),
+        _ => Err(Fail::new("accepted")),
+    }
 }
