@@ -1,4 +1,6 @@
 //! Banks: relations as bytes.
+#![tactic(auto)]
+
 mod breaking;
 mod cursor;
 mod numbers;

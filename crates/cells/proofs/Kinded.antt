@@ -1,6 +1,5 @@
 -- The derived equality of kinds decides equality of the kinds that they stand for.
-use Rattle.std.proofs.Common.{◌≡◌, Bool, true, false, Decides, sym, refl, ap, true≢false}
-use Rattle.model.specs.Sorts.{Kind as ModelKind, numbers, texts}
+use Rattle.std.proofs.Common.{◌≡◌, Bool, Decides, sym, refl, true≢false, ◌∙◌}
 use Rattle.cells.specs.Held.{kind_of}
 use Rattle.cells.specs.declared.kinds.Kind.{Kind}
 use Rattle.cells.specs.declared.kinds.Kind.TheVariants.{Num, Text}
@@ -13,5 +12,7 @@ kind_apart Text Num e = cc
 kind_apart Text Text e = refl
 
 pub kinds_same : (a b : Kind) (r : Bool) → (r ≡ ghosts.eq a b) → Decides r (kind_of a ≡ kind_of b)
-kinds_same a b true h = (λ e. ap kind_of h, λ e. refl)
-kinds_same a b false h = (λ e. absurd (true≢false (sym e)), λ e. absurd (h (kind_apart a b e)))
+kinds_same Num Num r h = (λ _. refl, λ _. h)
+kinds_same Num Text r h = (λ e. absurd (true≢false (sym e ∙ h)), λ e. cc)
+kinds_same Text Num r h = (λ e. absurd (true≢false (sym e ∙ h)), λ e. cc)
+kinds_same Text Text r h = (λ _. refl, λ _. h)

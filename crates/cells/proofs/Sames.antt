@@ -1,9 +1,9 @@
 -- Tests of equality decide equality, and the derived equality of cells and rows is that of their values.
-use Rattle.std.proofs.Common.{◌≡◌, ℕ, suc, Bool, true, false, ◌&&◌, eqb, ◌⊎◌, List, [], ◌∷◌, map, length, vec_items, string_bytes, Decides, sym, refl, ap, ◌∙◌, subst, inl, inr, true≢false, rules}
-use Rattle.std.proofs.lemmas.Slice.Eq.{IsBytesEq, compares_Decides, slice_eq-Decides}
-use Rattle.std.proofs.lemmas.Bool.{and_from, and_parts, and_left, and_right, eqb-true, eq-eqb}
+use Rattle.std.proofs.Common.{◌≡◌, ℕ, Bool, true, ◌&&◌, List, [], ◌∷◌, map, vec_items, string_bytes, Decides, nat_eq, sym, refl, ap, ◌∙◌, ap₂, subst, true≢false, rules}
+use Rattle.std.proofs.lemmas.Slice.Eq.{compares_Decides, slice_eq-Decides}
+use Rattle.std.proofs.lemmas.Bool.{and_from, and_parts, eqb-true, eq-eqb}
 use Rattle.std.specs.Bool.{one_answer}
-use Rattle.std.specs.Cmp.Lexicographic.{Matches, Same, Apart, pointwise}
+use Rattle.std.specs.Cmp.Lexicographic.{pointwise}
 use Rattle.model.specs.Values.{Value, num, text, Tuple, same_list, same_bytes, same_value, same_tuple}
 use Rattle.cells.specs.Held.{value, tuple}
 use Rattle.cells.specs.declared.values.Cell.{Cell}
@@ -43,35 +43,25 @@ pub same_tuple_decides : (s t : Tuple) → Decides (same_tuple s t) (s ≡ t)
 same_tuple_decides = same_list_decides same_value same_value_decides
 
 -- what `==` on slices of bytes answers
-pub matches_bytes : (xs ys : List ℕ) (r : Bool) → Matches (λ (a b : ℕ) (t : Bool). Decides t (a ≡ b)) xs ys r → r ≡ same_bytes xs ys
+pub matches_bytes : (xs ys : List ℕ) (r : Bool) → r ≡ pointwise nat_eq xs ys → r ≡ same_bytes xs ys
 matches_bytes xs ys r h = one_answer r (same_bytes xs ys) (slice_eq-Decides Decides-eqb xs ys r h) (same_bytes_decides xs ys)
 
-module _ {X Y : Type 0} (E : X → X → Bool → Type 0) (f : X → Y) (e : Y → Y → Bool) (says : (x y : X) (r : Bool) → E x y r → r ≡ e (f x) (f y)) where
-  same_true : (xs ys : List X) → Same E xs ys → same_list e (map f xs) (map f ys) ≡ true
-  same_true [] [] h = refl
-  same_true [] (y ∷ ys) h = absurd h
-  same_true (x ∷ xs) [] h = absurd h
-  same_true (x ∷ xs) (y ∷ ys) h = and_from (e (f x) (f y)) (same_list e (map f xs) (map f ys)) (sym (says x y true h.0)) (same_true xs ys h.1)
-
-  same_false : (xs ys : List X) → (length xs ≡ length ys → ⊥) ⊎ Apart E xs ys → same_list e (map f xs) (map f ys) ≡ false
-  same_false [] [] (inl h) = absurd (h refl)
-  same_false [] [] (inr h) = absurd h
-  same_false [] (y ∷ ys) h = refl
-  same_false (x ∷ xs) [] h = refl
-  same_false (x ∷ xs) (y ∷ ys) (inl h) = and_right (e (f x) (f y)) (same_list e (map f xs) (map f ys)) (same_false xs ys (inl (λ l. h (ap suc l))))
-  same_false (x ∷ xs) (y ∷ ys) (inr (inl h)) = and_left (e (f x) (f y)) (same_list e (map f xs) (map f ys)) (sym (says x y false h))
-  same_false (x ∷ xs) (y ∷ ys) (inr (inr h)) = and_right (e (f x) (f y)) (same_list e (map f xs) (map f ys)) (same_false xs ys (inr h))
-
+module _ {X Y : Type 0} (E : X → X → Bool) (f : X → Y) (e : Y → Y → Bool) (says : (x y : X) → E x y ≡ e (f x) (f y)) where
   -- what `==` on lists answers, from what it answers on their elements
-  pub matches_same : (xs ys : List X) (r : Bool) → Matches E xs ys r → r ≡ same_list e (map f xs) (map f ys)
-  matches_same xs ys true h = sym (same_true xs ys h.1)
-  matches_same xs ys false h = sym (same_false xs ys h)
+  pub matches_same : (xs ys : List X) → pointwise E xs ys ≡ same_list e (map f xs) (map f ys)
+  matches_same [] [] = refl
+  matches_same [] (y ∷ ys) = refl
+  matches_same (x ∷ xs) [] = refl
+  matches_same (x ∷ xs) (y ∷ ys) = ap₂ ◌&&◌ (says x y) (matches_same xs ys)
+
+cells_alike : (x y : Cell) → ghosts.eq x y ≡ same_value (value x) (value y)
+cells_alike (Num m) (Num n) = refl
+cells_alike (Num m) (Text t) = refl
+cells_alike (Text s) (Num n) = refl
+cells_alike (Text s) (Text t) = matches_bytes (string_bytes s) (string_bytes t) _ refl
 
 pub cells_same : (x y : Cell) (r : Bool) → (r ≡ ghosts.eq x y) → r ≡ same_value (value x) (value y)
-cells_same (Num m) (Num n) r h = one_answer r (eqb m n) h (eqb-true m n, eq-eqb m n)
-cells_same (Num m) (Text t) r h = h
-cells_same (Text s) (Num n) r h = h
-cells_same (Text s) (Text t) r h = one_answer r (same_bytes (string_bytes s) (string_bytes t)) h (same_bytes_decides (string_bytes s) (string_bytes t))
+cells_same x y r h = h ∙ cells_alike x y
 
 pub rows_same : (s t : Row) (r : Bool) → (r ≡ pointwise ghosts.eq (vec_items s.cells) (vec_items t.cells)) → r ≡ same_tuple (tuple s) (tuple t)
-rows_same s t = matches_same (λ x' y' r'. r' ≡ ghosts.eq x' y') value same_value cells_same (vec_items s.cells) (vec_items t.cells)
+rows_same s t r h = h ∙ matches_same ghosts.eq value same_value cells_alike (vec_items s.cells) (vec_items t.cells)

@@ -1,5 +1,5 @@
 -- What may be a text or a name is UTF-8, and what is offered as a text is a cell exactly when its bytes are.
-use Rattle.std.proofs.Common.{◌≡◌, ℕ, zero, suc, ◌<◌, Bool, true, false, cond, not, ◌&&◌, eqb, leb, List, [], ◌∷◌, length, get_or, IsUtf8, IsAscii, sym, refl, ap, ◌∙◌, arith}
+use Rattle.std.proofs.Common.{◌≡◌, ℕ, zero, suc, ◌<◌, Bool, true, false, cond, not, ◌&&◌, eqb, leb, List, [], ◌∷◌, length, IsUtf8, IsAscii, sym, refl, arith}
 use lib.Utf8.{encodes, scalars}
 use Rattle.std.proofs.lemmas.Bool.{and_from, and_parts, leb-true, both_ways, cond-true, cond-false}
 use Rattle.std.proofs.lemmas.Str.{encodes-chars, scalars-chars, IsUtf8-from_ascii}

@@ -38,7 +38,7 @@ impl fmt::Display for Row {
 }
 
 fn print_rest<W: fmt::Write>(cells: &[Cell], f: &mut fmt::Formatter<W>) -> fmt::Result
-    ensures { WritesOnOk write_str_gives f.old result (flat_map spaced (map value cells.now)) f.new }
+    ensures { WritesOnOk W.write_str_gives f.old result (flat_map spaced (map value cells.now)) f.new }
 {
     for cell in cells {
         write!(f, " {cell}")?;

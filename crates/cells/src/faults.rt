@@ -1,5 +1,6 @@
 //! Faults, and the refusals that carry them.
-ghost use Rattle.std.specs.Prelude.{◌≡◌, Decides};
+ghost use Rattle.std.specs.Prelude.{◌≡◌, Decides, nat_eq};
+ghost use Rattle.std.specs.Ordering.{on};
 ghost use Rattle.cells.specs.Numbered.{number};
 ghost use Rattle.cells.specs.declared.faults.Cause.{Cause};
 ghost use Rattle.cells.specs.declared.faults.Refusal.TheVariants.{Memory};
@@ -73,11 +74,14 @@ impl Cause {
 }
 
 impl PartialEq for Cause {
-    ghost equals = { λ x y r. Decides r (x ≡ y) };
+    ghost eq = { on number nat_eq };
 
     ghost laws = { Keys.partial_equiv_from_equiv (Prim.search (comparing, rules)) };
 
-    fn eq(&self, other: &Cause) -> bool {
+    fn eq(&self, other: &Cause) -> bool
+        ensures decides { Decides result (self.now ≡ other.now) }
+        ensures same { result ≡ on number nat_eq self.now other.now }
+    {
         self.number() == other.number()
     }
 }

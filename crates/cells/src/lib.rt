@@ -1,4 +1,6 @@
 //! Cells and rows, the kinds of columns, words, and the faults that calls are refused with.
+#![tactic(auto)]
+
 mod display;
 mod faults;
 mod kinds;

@@ -1,23 +1,23 @@
 -- What is accepted and refused, in the words of the rules. Assumes nothing.
-use Rattle.std.proofs.Common.{◌≡◌, ℕ, suc, ◌<◌, ◌≤◌, Bool, true, false, cond, ◌⊎◌, ◌↔◌, List, [], ◌∷◌, ◌++◌, length, Some, None, Option, sym, refl, ap, ◌∙◌, subst, ap₂, inl, inr, arith}
+use Rattle.std.proofs.Common.{◌≡◌, ℕ, suc, ◌≤◌, Bool, true, false, cond, ◌⊎◌, List, [], ◌∷◌, ◌++◌, length, Some, None, Option, sym, refl, ap, ◌∙◌, subst, ap₂, inl, inr, arith}
 use Rattle.std.proofs.lemmas.Bool.{both_ways}
 use Rattle.model.specs.Values.{Tuple, Relation, ◌∈◌}
 use Rattle.model.specs.Orders.{by_bytes, Ascending}
-use Rattle.model.specs.Sorts.{Column, Shaped, Dependency, MeetsDeps, admitted, Sort, Meets, greatest}
+use Rattle.model.specs.Sorts.{Shaped, Dependency, MeetsDeps, admitted, Sort, greatest}
 use Rattle.model.specs.Faults.{Fault, fault, or_then}
-use Rattle.model.specs.Tables.{Store, Rules}
+use Rattle.model.specs.Tables.{Rules}
 use Rattle.model.specs.Decisions.{shaped}
-use Rattle.model.specs.Judging.{breaks, rows_fault, dep_fault, sort_fault, judge}
+use Rattle.model.specs.Judging.{breaks, rows_fault, dep_fault, sort_fault}
 use Rattle.model.specs.Refusals.{RowsRight, Due}
 use Rattle.model.specs.Refusals as offer
-use Rattle.model.specs.Banks.{bank, coded_row, accepted, refused, read_bank}
+use Rattle.model.specs.Banks.{bank, coded_row, read_bank}
 use Rattle.laws.proofs.Meeting.{shaped_is, is_shaped}
 use Rattle.laws.proofs.Refusing.{rows_none, none_rows, sort_none, none_sort}
 use Rattle.laws.proofs.Judging.{judge_due}
 use Rattle.coding.specs.Reading.{WrittenReads, SoundBank, AcceptedExactly, BanksOnce, at, Begun, DueBank, RefusedExactly}
 use Rattle.coding.specs.Reading as spec
-use Rattle.coding.proofs.Rows.{not_none, same_fault, or_none, or_either}
-use Rattle.coding.proofs.Whole.{CleanBank, Fine, BankFault, header_cut, header_differs, no_count, count_above, cell_bad, row_bad, left_over, row_breaks, accepted_clean, refused_fault, sound_accepted, same_accepted}
+use Rattle.coding.proofs.Rows.{not_none, same_fault, or_either}
+use Rattle.coding.proofs.Whole.{Fine, BankFault, header_cut, header_differs, no_count, count_above, cell_bad, row_bad, left_over, row_breaks, accepted_clean, refused_fault, sound_accepted, same_accepted}
 
 -- rows without fault are right
 fine_right : (k : ℕ) (S : Sort) (R : Relation) → Fine k S R → RowsRight by_bytes S R

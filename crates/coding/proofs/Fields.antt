@@ -1,13 +1,13 @@
 -- The fields of a bank: numbers, texts, cells and the header. Assumes nothing.
-use Rattle.std.proofs.Common.{◌≡◌, ℕ, ◌+◌, ◌-◌, ◌<◌, ◌≤◌, Bool, true, false, cond, ◌&&◌, eqb, ltb, leb, ◌⊎◌, List, [], ◌∷◌, ◌++◌, length, take, drop, Some, None, Option, sym, refl, ap, ◌∙◌, subst, ap₂, inl, inr, append_assoc, arith, length-append, take-append-drop, length-take}
+use Rattle.std.proofs.Common.{◌≡◌, ℕ, ◌≤◌, Bool, true, false, cond, eqb, leb, List, [], ◌∷◌, ◌++◌, length, take, drop, Option, sym, refl, ap, ◌∙◌, ap₂, append_assoc, arith, length-append, take-append-drop, length-take}
 use mathlib.Core.Bool.{false≢true}
 use lib.Seq.{take-append_seam, drop-append_seam}
-use Rattle.std.proofs.lemmas.Bool.{cases_Bool, leb-true, leb-false, le-leb, lt-leb, eqb-true, eqb-false, eq-eqb, ne_eqb, and_parts, and_from, ltb-true}
-use Rattle.model.specs.Values.{Value, num, text, Tuple, Relation, every}
-use Rattle.model.specs.Sorts.{Kind, numbers, texts, is_text, of_kind, greatest, Column, Sort}
+use Rattle.std.proofs.lemmas.Bool.{leb-true, leb-false, le-leb, lt-leb, eqb-true, eqb-false, eq-eqb, ne_eqb, and_parts, and_from}
+use Rattle.model.specs.Values.{Value, num, text, Tuple}
+use Rattle.model.specs.Sorts.{Kind, numbers, texts, is_text, of_kind, greatest, Column}
 use Rattle.model.specs.Decisions.{shaped}
 use Rattle.model.specs.Banks.{groups, coded_cell, coded_row, Read, found, bad, and_then, place_in, read_header, find_number, or_23, read_number, read_text, read_cell, read_cells}
-use Rattle.coding.specs.Numbers.{Begins, NoNumber}
+use Rattle.coding.specs.Numbers.{NoNumber}
 use Rattle.coding.specs.Reading.{BadCell, not_a_number, no_length, cut_off, not_a_text}
 use Rattle.coding.proofs.Groups.{find_groups, Front, a_number, no_number, front, none_exact}
 

@@ -1,14 +1,13 @@
 -- The rows of a bank. Assumes nothing.
-use Rattle.std.proofs.Common.{◌≡◌, ℕ, zero, suc, ◌+◌, ◌-◌, ◌<◌, ◌≤◌, Bool, true, false, cond, ◌&&◌, ◌⊎◌, List, [], ◌∷◌, ◌++◌, length, Some, None, Option, sym, refl, ap, ◌∙◌, subst, ap₂, inl, inr, append_assoc, arith}
-use mathlib.Core.Bool.{false≢true}
+use Rattle.std.proofs.Common.{◌≡◌, ℕ, zero, suc, ◌<◌, Bool, true, false, cond, ◌⊎◌, List, [], ◌∷◌, ◌++◌, length, Some, None, Option, sym, refl, ap, ◌∙◌, ap₂, inl, inr, append_assoc, arith}
 use Rattle.std.proofs.lemmas.Bool.{and_parts, and_from}
-use Rattle.model.specs.Values.{Value, Tuple, Relation, every}
+use Rattle.model.specs.Values.{Tuple, Relation, every}
 use Rattle.model.specs.Orders.{by_bytes}
 use Rattle.model.specs.Sorts.{Column, admitted, Sort}
 use Rattle.model.specs.Faults.{Fault, fault, or_then}
 use Rattle.model.specs.Decisions.{shaped}
 use Rattle.model.specs.Judging.{above, row_fault, rows_fault}
-use Rattle.model.specs.Banks.{coded_row, coded_rows, Read, found, bad, and_then, place_in, read_cells, judge_row, read_row, read_rows}
+use Rattle.model.specs.Banks.{coded_row, coded_rows, Read, found, bad, and_then, place_in, read_cells, judge_row, read_rows}
 use Rattle.coding.specs.Reading.{BadCell, at}
 use Rattle.coding.proofs.Fields.{cells_good, cells_bad, CellsRead, good_cells, bad_cells, cells_read}
 

@@ -1,18 +1,18 @@
 -- Whole banks. Assumes nothing.
-use Rattle.std.proofs.Common.{◌≡◌, ℕ, zero, suc, ◌+◌, ◌-◌, ◌<◌, ◌≤◌, Bool, true, false, cond, leb, ◌↔◌, List, [], ◌∷◌, ◌++◌, length, Some, None, Option, sym, refl, ap, ◌∙◌, subst, ap₂, append_assoc, append-nil, arith, length-append}
+use Rattle.std.proofs.Common.{◌≡◌, ℕ, ◌-◌, ◌<◌, ◌≤◌, Bool, true, false, cond, leb, ◌↔◌, List, [], ◌∷◌, ◌++◌, length, Some, None, Option, sym, refl, ap, ◌∙◌, subst, ap₂, append_assoc, append-nil, arith, length-append}
 use Rattle.std.proofs.lemmas.Bool.{leb-true, leb-false, le-leb, lt-leb}
-use Rattle.model.specs.Values.{Tuple, Relation, every}
+use Rattle.model.specs.Values.{Tuple, Relation}
 use Rattle.model.specs.Orders.{by_bytes}
 use Rattle.model.specs.Sorts.{Column, greatest, Sort}
 use Rattle.model.specs.Faults.{Fault, or_then}
 use Rattle.model.specs.Decisions.{shaped}
 use Rattle.model.specs.Judging.{rows_fault, dep_fault, sort_fault}
-use Rattle.model.specs.Banks.{groups, coded_row, coded_rows, header, bank, Read, found, bad, and_then, place_in, read_header, find_number, or_23, read_number, read_count, read_rows, read_end, read_fields, Reading, accepted, refused, accept_unless, judge_fields, read_bank}
+use Rattle.model.specs.Banks.{groups, coded_row, coded_rows, header, bank, Read, found, bad, and_then, place_in, read_header, find_number, or_23, read_count, read_rows, read_end, read_fields, Reading, accepted, refused, accept_unless, judge_fields, read_bank}
 use Rattle.coding.specs.Numbers.{Begins, NoNumber}
 use Rattle.coding.specs.Reading.{JudgedAsOffered, BadCell, at}
 use Rattle.coding.proofs.Groups.{Front, a_number, no_number, front}
 use Rattle.coding.proofs.Fields.{number_good, number_bad, HeaderRead, whole_header, short_header, other_header, header_read, header_good, header_ends, header_other}
-use Rattle.coding.proofs.Rows.{not_none, or_none, fine_shaped, judged, rows_good, RowsRead, rows_kind, good_rows, bad_field, bad_row, rows_read, field_refused, row_refused}
+use Rattle.coding.proofs.Rows.{or_none, fine_shaped, judged, rows_good, RowsRead, rows_kind, good_rows, bad_field, bad_row, rows_read, field_refused, row_refused}
 
 -- What is accepted and what is refused, by the tests that are computed.
 abbrev pub CleanBank : ℕ → Sort → ℕ → List ℕ → Relation → Type 0

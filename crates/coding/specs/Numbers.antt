@@ -1,5 +1,5 @@
 -- Numbers in groups of seven bits: what is read is what was written.
-use Rattle.std.specs.Prelude.{◌≡◌, ℕ, ◌≤◌, ◌↔◌, List, ◌++◌, Some, None, Option}
+use Rattle.std.specs.Prelude.{◌≡◌, ℕ, ◌≤◌, ◌↔◌, List, ◌++◌, Some, None}
 use Rattle.model.specs.Sorts.{greatest}
 use Rattle.model.specs.Banks.{groups, find_number}
 

@@ -1,4 +1,6 @@
 //! The laws of the bank format, each asked for by a small function.
+#![tactic(auto)]
+
 ghost use Rattle.coding.specs.Numbers.{GroupsOnce, NoneExact, NumbersExact};
 ghost use Rattle.coding.specs.Reading.{AcceptedExactly, BanksOnce, JudgedAsOffered, RefusedExactly, WrittenReads};
 ghost use Rattle.coding.specs.Sizes.{BankLength};

@@ -1,4 +1,6 @@
 //! Columns, sets of columns and functional dependencies: closure, tree form and the order in which dependencies are worked.
+#![tactic(auto)]
+
 mod agreeing;
 mod column;
 mod dependencies;

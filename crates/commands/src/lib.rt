@@ -1,3 +1,5 @@
+#![tactic(auto)]
+
 // The lines of a session script, read as commands.
 pub mod numbers;
 pub mod parsing;

@@ -1,4 +1,6 @@
 //! Conditions: what reads columns of a row and admits it or not. Written conditions, and picks.
+#![tactic(auto)]
+
 mod building;
 mod interface;
 mod mixing;

@@ -1,6 +1,6 @@
 -- Reading with one more of depth allowed.
 use Rattle.std.proofs.Common.{◌≡◌, ℕ, zero, suc, ◌⊎◌, List, [], ◌∷◌, refl, ap, inl, inr}
-use Rattle.grammar.specs.Signs.{Sign, number, AND, AS, DEFAULT, DROP, JOIN, NOT, OR, RENAME, SELECT}
+use Rattle.grammar.specs.Signs.{Sign, AND, AS, DEFAULT, DROP, JOIN, NOT, OR, RENAME, SELECT}
 use Rattle.grammar.specs.Phrases.{source, drop, rename, join, placed}
 use Rattle.grammar.specs.Reading.{Item, leaf, a_not, a_bracket, an_and, an_or, a_select, a_step, Want, a_neg, more_and, more_or, a_source, more_steps, an_op, an_operand, a_closing, drop_column, rename_column, drop_default, drop_cell, rename_as, rename_word, complete, Taken, goes, stops, after, stop, lacks, is_key, is_opening, is_closing, deeper, a_condition, a_definition, takes, at_end}
 use Rattle.derivations.proofs.Along.{by_cond, by_word, by_cell, by_operand, by_comparing}

@@ -1,4 +1,6 @@
 //! Theorems about the grammar of conditions and definitions (crate `grammar`) and about reading them. Each function ensures one.
+#![tactic(auto)]
+
 ghost use Rattle.derivations.specs.Accepted.{ConditionAccepted, DefinitionAccepted, OneReading};
 ghost use Rattle.derivations.specs.Examples.{Examples};
 ghost use Rattle.derivations.specs.Parts.{PartsRule};

@@ -8,7 +8,7 @@ use Rattle.model.specs.Values.{Value, num, text}
 use Rattle.model.specs.Sorts.{is_text, greatest}
 use Rattle.model.specs.Conditions.{Comparison}
 use Rattle.grammar.specs.Signs.{Sign, word, number, quoted, key, comparing, opening, closing, decimal, Token, at, AND, AS, DEFAULT, DROP, JOIN, NOT, OR, RENAME, SELECT}
-use Rattle.grammar.specs.Phrases.{Term, named, given, Phrase, compared, negated, bracket, both, either, Step, source, select, drop, rename, join, Placed, placed}
+use Rattle.grammar.specs.Phrases.{Term, named, given, Phrase, compared, negated, bracket, both, either, source, select, drop, rename, join, Placed, placed}
 
 -- a word has at most 12 letters
 abbrev pub Short : List ℕ → Type 0

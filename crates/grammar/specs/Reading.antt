@@ -5,7 +5,7 @@ use Rattle.model.specs.Sorts.{is_text, greatest}
 use Rattle.model.specs.Conditions.{Comparison}
 use Rattle.model.specs.Faults.{Fault, fault}
 use Rattle.grammar.specs.Signs.{Sign, word, number, quoted, key, comparing, opening, closing, stray, broken, decimal, Keyword, AND, AS, DEFAULT, DROP, JOIN, NOT, OR, RENAME, SELECT, Token, signs}
-use Rattle.grammar.specs.Phrases.{Term, named, given, Phrase, compared, negated, bracket, both, either, Step, source, select, drop, rename, join, Placed, placed}
+use Rattle.grammar.specs.Phrases.{Term, named, given, Phrase, compared, negated, bracket, both, either, source, select, drop, rename, join, Placed, placed}
 
 -- What is complete, in the order in which it becomes so: a comparison; a not, a bracket, an and, an or, after what they stand over; a
 -- step, and of a select the condition before it.

@@ -1,5 +1,5 @@
 -- The signs of a text, each with its place: the number of bytes before it.
-use Rattle.std.specs.Prelude.{ℕ, zero, suc, ◌+◌, ◌-◌, ◌*◌, Bool, true, false, cond, ◌&&◌, ◌||◌, List, [], ◌∷◌, length, drop, Some, None, codes, Option, ◌==◌, nat_le}
+use Rattle.std.specs.Prelude.{ℕ, zero, suc, ◌+◌, ◌-◌, ◌*◌, Bool, false, cond, ◌&&◌, ◌||◌, List, [], ◌∷◌, length, drop, Some, None, codes, Option, ◌==◌, nat_le}
 use Rattle.model.specs.Values.{find, same_bytes}
 use Rattle.model.specs.Words.{is_letter}
 use Rattle.model.specs.Sorts.{is_text_byte}

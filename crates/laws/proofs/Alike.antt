@@ -1,5 +1,5 @@
 -- To be one view is an equivalence, and openings of one view have the same tables, show and put alike, and have the same faults.
-use Rattle.std.proofs.Common.{◌≡◌, ℕ, zero, suc, Bool, true, false, cond, not, ◌&&◌, ◌⊎◌, List, [], ◌∷◌, ◌++◌, map, length, Some, None, Option, sym, refl, ap, ◌∙◌, subst, ap₂, inl, inr}
+use Rattle.std.proofs.Common.{◌≡◌, ℕ, suc, Bool, true, false, cond, not, ◌&&◌, List, [], ◌∷◌, ◌++◌, map, length, Some, None, Option, sym, refl, ap, ◌∙◌, subst, ap₂, inl, inr}
 use mathlib.Core.Bool.{false≢true}
 use Rattle.model.specs.ColumnSets.{has}
 use Rattle.model.specs.Decisions.{shaped}

@@ -1,5 +1,5 @@
 -- Closure is the least closed set, and is what Armstrong's axioms derive.
-use Rattle.std.proofs.Common.{◌≡◌, ℕ, zero, suc, ◌<◌, ◌≤◌, Bool, true, false, cond, not, ◌&&◌, ◌⊎◌, List, [], ◌∷◌, length, sym, refl, ap, ◌∙◌, subst, ap₂, inl, inr, true≢false, arith}
+use Rattle.std.proofs.Common.{◌≡◌, ℕ, zero, suc, ◌<◌, ◌≤◌, Bool, true, false, cond, not, ◌&&◌, List, [], ◌∷◌, length, sym, refl, subst, inl, inr, true≢false, arith}
 use mathlib.Core.Bool.{false≢true}
 use Rattle.model.specs.Closures.{Derives, augmentation, closure, given, grow, reflexivity, transitivity, turns}
 use Rattle.model.specs.ColumnSets.{ColumnSet, Within, union, within}

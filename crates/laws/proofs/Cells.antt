@@ -1,5 +1,5 @@
 -- Cells, column sets and their tests.
-use Rattle.std.proofs.Common.{◌≡◌, ℕ, zero, suc, Bool, true, false, cond, not, ◌&&◌, ◌||◌, T, eqb, ◌⊎◌, List, [], ◌∷◌, ◌++◌, map, length, sym, refl, ap, ◌∙◌, subst, ap₂, inl, inr, true≢false, eqb→eq}
+use Rattle.std.proofs.Common.{◌≡◌, ℕ, zero, suc, Bool, true, false, cond, not, ◌&&◌, ◌||◌, T, eqb, ◌⊎◌, List, [], ◌∷◌, ◌++◌, length, sym, refl, ap, ◌∙◌, subst, ap₂, inl, inr, eqb→eq}
 use mathlib.Core.Bool.{false≢true}
 use lib.Dec.{eqb_refl}
 use Rattle.model.specs.ColumnSets.{Apart, ColumnSet, Same, Within, apart, has, non_empty, same, union, within}

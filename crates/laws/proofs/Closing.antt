@@ -1,5 +1,5 @@
 -- Closure.
-use Rattle.std.proofs.Common.{◌≡◌, ℕ, zero, suc, Bool, true, false, cond, ◌⊎◌, List, [], ◌∷◌, length, sym, refl, ap, ◌∙◌, subst, ap₂, inl, inr}
+use Rattle.std.proofs.Common.{◌≡◌, ℕ, zero, suc, Bool, true, false, cond, List, [], ◌∷◌, length, refl, inl, inr}
 use Rattle.model.specs.Closures.{closure, grow, turns}
 use Rattle.model.specs.ColumnSets.{ColumnSet, union, within}
 use Rattle.model.specs.Sorts.{Agree, Dependency, MeetsDeps}

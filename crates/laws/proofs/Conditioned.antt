@@ -1,5 +1,5 @@
 -- A condition's parts admit what it admits.
-use Rattle.std.proofs.Common.{◌≡◌, ℕ, zero, suc, Bool, true, false, not, ◌&&◌, ◌||◌, ◌⊎◌, ◌↔◌, List, [], ◌∷◌, ◌++◌, sym, refl, ap, ◌∙◌, subst, ap₂, inl, inr}
+use Rattle.std.proofs.Common.{◌≡◌, ℕ, zero, suc, Bool, true, false, ◌&&◌, sym, refl, ap, ◌∙◌, subst, ap₂, inl, inr}
 use mathlib.Core.Bool.{false≢true}
 use Prim.Native.Nat.{Ordering}
 use Rattle.model.specs.ColumnSets.{has, singleton}

@@ -1,7 +1,6 @@
 -- Drop keeps the laws.
-use Rattle.std.proofs.Common.{◌≡◌, ℕ, zero, suc, ◌≤◌, Bool, true, false, cond, not, ◌&&◌, ◌||◌, ◌⊎◌, List, [], ◌∷◌, ◌++◌, map, length, Some, None, Option, sym, refl, ap, ◌∙◌, subst, ap₂, inl, inr, true≢false, arith}
+use Rattle.std.proofs.Common.{◌≡◌, ℕ, zero, suc, Bool, true, false, cond, ◌⊎◌, List, [], ◌∷◌, map, length, Some, None, Option, sym, refl, ap, ◌∙◌, subst, inl, inr, arith}
 use mathlib.Core.Path.{fun_ext}
-use mathlib.Core.Bool.{false≢true}
 use Rattle.model.specs.ColumnSets.{Apart, ColumnSet, Same, Within, has, non_empty}
 use Rattle.model.specs.Dropping.{MayDrop, add_at, add_at_length, cell_or, column_at, determining, drop, drop_dep, drop_deps, drop_part, drop_parts, drop_put, drop_sort, fill, without}
 use Rattle.model.specs.Orders.{Order, Total, relation_of}

@@ -1,5 +1,5 @@
 -- Which rows exactly a put through a layer leaves.
-use Rattle.std.proofs.Common.{◌≡◌, ℕ, Bool, true, false, not, ◌&&◌, ◌⊎◌, ◌↔◌, List, [], ◌∷◌, ◌++◌, map, Option, sym, refl, ap, ◌∙◌, subst, inl, inr}
+use Rattle.std.proofs.Common.{◌≡◌, ℕ, true, false, not, ◌&&◌, ◌⊎◌, ◌↔◌, List, ◌++◌, map, Option, sym, refl, ap, ◌∙◌, subst, inl, inr}
 use Rattle.model.specs.ColumnSets.{ColumnSet}
 use Rattle.model.specs.Dropping.{MayDrop, add_at, cell_or, determining, drop, drop_put, drop_sort, fill, without}
 use Rattle.model.specs.Facts.{and_both}

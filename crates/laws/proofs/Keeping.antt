@@ -1,5 +1,5 @@
 -- The ledger keeps sorts and rooms, and what views show.
-use Rattle.std.proofs.Common.{◌≡◌, ℕ, zero, suc, ◌<◌, ◌≤◌, ◌⊎◌, List, [], ◌∷◌, map, length, Some, None, Option, sym, refl, ap, ◌∙◌, subst, ap₂, inl, inr, arith}
+use Rattle.std.proofs.Common.{◌≡◌, ℕ, zero, suc, ◌<◌, ◌≤◌, List, [], ◌∷◌, map, length, Some, None, Option, sym, refl, ap, ◌∙◌, subst, ap₂, inl, inr, arith}
 use Rattle.model.specs.Faults.{Fault}
 use Rattle.model.specs.Ledger.{Call, State, close_view, due, new_stores, open_refused, open_view, put, relation_at, set_at, set_stores, set_view, show, shown, step, stores_of, try, unless_due}
 use Rattle.model.specs.Orders.{Order, Total}

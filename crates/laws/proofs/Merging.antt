@@ -1,5 +1,5 @@
 -- The rows of J and the revised rows of I together meet what both meet.
-use Rattle.std.proofs.Common.{◌≡◌, ℕ, zero, suc, Bool, true, false, ◌⊎◌, List, [], ◌∷◌, ◌++◌, map, Option, sym, refl, ap, ◌∙◌, subst, ap₂, inl, inr}
+use Rattle.std.proofs.Common.{◌≡◌, true, List, ◌++◌, map, Option, sym, ◌∙◌, subst, inl, inr}
 use Rattle.model.specs.Orders.{Order, Total, relation_of}
 use Rattle.model.specs.Revision.{Revised, revise}
 use Rattle.model.specs.Selecting.{ReadsNoOutput}

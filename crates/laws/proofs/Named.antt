@@ -1,7 +1,6 @@
 -- Rows by the words of their columns.
-use Rattle.std.proofs.Common.{◌≡◌, ℕ, zero, suc, Bool, true, false, cond, not, ◌&&◌, ◌||◌, ◌⊎◌, List, [], ◌∷◌, ◌++◌, map, Some, None, Option, sym, refl, ap, ◌∙◌, subst, ap₂, inl, inr, true≢false, arith}
+use Rattle.std.proofs.Common.{◌≡◌, ℕ, zero, suc, Bool, true, false, cond, ◌&&◌, ◌||◌, List, [], ◌∷◌, ◌++◌, map, Some, None, Option, sym, refl, ap, ◌∙◌, subst, ap₂, inl, inr, true≢false}
 use mathlib.Core.Bool.{false≢true}
-use Prim.Native.Nat.{compare, Ordering}
 use Rattle.std.specs.Option.{option_map}
 use Rattle.model.specs.ColumnSets.{Apart, ColumnSet, Within, has, non_empty}
 use Rattle.model.specs.Facts.{and_both, has_tail, or_left, or_right}

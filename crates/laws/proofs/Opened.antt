@@ -1,5 +1,5 @@
 -- A layer opens exactly when its premises hold, and the limits.
-use Rattle.std.proofs.Common.{◌≡◌, ℕ, zero, suc, ◌≤◌, Bool, true, false, cond, not, ◌&&◌, ◌||◌, leb, ◌⊎◌, ◌↔◌, List, [], ◌∷◌, ◌++◌, map, length, Some, None, Option, sym, refl, ap, ◌∙◌, subst, inl, inr, le→leb, leb→le}
+use Rattle.std.proofs.Common.{◌≡◌, ℕ, zero, suc, ◌≤◌, Bool, true, false, cond, not, ◌&&◌, ◌||◌, leb, ◌↔◌, List, [], ◌∷◌, ◌++◌, map, length, Some, None, Option, sym, refl, ap, ◌∙◌, subst, inl, inr, le→leb, leb→le}
 use mathlib.Core.Bool.{false≢true}
 use Rattle.model.specs.Closures.{closure}
 use Rattle.model.specs.ColumnSets.{ColumnSet, apart, has, non_empty, singleton, within}

@@ -1,5 +1,5 @@
 -- The order of rows is total, and an ascending relation is known by its members.
-use Rattle.std.proofs.Common.{◌≡◌, ℕ, zero, suc, ◌≤◌, Bool, true, false, cond, ◌⊎◌, List, [], ◌∷◌, ◌++◌, map, length, sym, refl, ap, ◌∙◌, subst, ap₂, inl, inr, arith}
+use Rattle.std.proofs.Common.{◌≡◌, ℕ, suc, ◌≤◌, Bool, true, false, cond, ◌⊎◌, List, [], ◌∷◌, length, sym, refl, ap, ◌∙◌, subst, ap₂, inl, inr, arith}
 use Prim.Native.Nat.{compare, Ordering}
 use Rattle.model.specs.Orders.{Ascending, Below, BelowFirst, Order, Total, by_bytes, compare_tuples, insert, insert_at, lexical, relation_of, then_by}
 use Rattle.model.specs.Values.{Relation, Tuple, Value, filter, num, text, ◌∈◌}

@@ -1,5 +1,5 @@
 -- A fault of a put below passes up.
-use Rattle.std.proofs.Common.{◌≡◌, ℕ, zero, suc, ◌+◌, Bool, true, false, cond, leb, List, [], ◌∷◌, ◌++◌, length, Some, None, Option, sym, refl, ap, ◌∙◌, ap₂, arith}
+use Rattle.std.proofs.Common.{◌≡◌, ℕ, suc, ◌+◌, Bool, true, false, cond, leb, List, [], ◌∷◌, ◌++◌, length, Some, None, Option, sym, refl, ap, ◌∙◌, ap₂, arith}
 use Rattle.model.specs.Dropping.{drop_put, drop_sort}
 use Rattle.model.specs.Faults.{Fault, fault, or_then, shifted}
 use Rattle.model.specs.Joining.{MayJoin, join, join_left, join_right, join_sort, left_stores, right_stores}

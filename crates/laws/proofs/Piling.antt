@@ -1,5 +1,5 @@
 -- Every view is lawful and stands on its tables.
-use Rattle.std.proofs.Common.{◌≡◌, ℕ, ◌<◌, ◌⊎◌, List, [], ◌∷◌, ◌++◌, map, length, sym, refl, ◌∙◌, subst, ap₂, inl, inr, arith}
+use Rattle.std.proofs.Common.{◌≡◌, ℕ, ◌<◌, List, [], ◌∷◌, ◌++◌, map, length, sym, refl, ◌∙◌, subst, ap₂, inl, inr, arith}
 use Rattle.model.specs.Orders.{Order, Total}
 use Rattle.model.specs.Piles.{Pile, Premises, View, dropping, joining, places, renaming, rules, selecting, source, stored, table_at}
 use Rattle.model.specs.Sorts.{Meets}

@@ -1,5 +1,5 @@
 -- A put has no fault exactly when it is to be accepted.
-use Rattle.std.proofs.Common.{◌≡◌, ℕ, zero, suc, Bool, true, false, cond, not, ◌&&◌, leb, ◌⊎◌, List, [], ◌∷◌, length, Some, None, Option, sym, refl, ap, ◌∙◌, subst, ap₂, inl, inr, true≢false, arith, le→leb, leb→le}
+use Rattle.std.proofs.Common.{◌≡◌, ℕ, suc, Bool, true, false, cond, not, ◌&&◌, leb, ◌⊎◌, List, [], ◌∷◌, length, Some, None, Option, sym, refl, ap, ◌∙◌, subst, inl, inr, true≢false, arith, le→leb, leb→le}
 use mathlib.Core.Bool.{false≢true}
 use lib.Dec.{nleb→lt}
 use Rattle.model.specs.Decisions.{fits, is_below, shaped}

@@ -1,5 +1,5 @@
 -- Rename keeps the laws.
-use Rattle.std.proofs.Common.{◌≡◌, ℕ, zero, suc, true, ◌⊎◌, List, [], ◌∷◌, sym, refl, ap, ◌∙◌, subst, ap₂, inl, inr}
+use Rattle.std.proofs.Common.{◌≡◌, ℕ, zero, suc, true, ◌⊎◌, List, [], ◌∷◌, sym, refl, ap, ◌∙◌, subst, inl, inr}
 use Rattle.model.specs.ColumnSets.{ColumnSet, Within}
 use Rattle.model.specs.Orders.{Order}
 use Rattle.model.specs.Renaming.{Unused, rename, rename_at, rename_sort}

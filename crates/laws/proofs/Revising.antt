@@ -1,6 +1,5 @@
 -- Revision, characterised without its order.
-use Rattle.std.proofs.Common.{◌≡◌, ℕ, zero, suc, Bool, true, false, cond, not, ◌&&◌, ◌||◌, ◌⊎◌, List, [], ◌∷◌, ◌++◌, map, Option, sym, refl, ap, ◌∙◌, subst, ap₂, inl, inr, true≢false}
-use mathlib.Core.Bool.{false≢true}
+use Rattle.std.proofs.Common.{◌≡◌, ℕ, true, false, ◌⊎◌, List, [], ◌∷◌, Option, sym, refl, ap, ◌∙◌, subst, inl, inr}
 use Rattle.model.specs.ColumnSets.{Apart, ColumnSet, has}
 use Rattle.model.specs.Revision.{Revised, revise, revise_by, revise_once, taken_from}
 use Rattle.model.specs.Sorts.{Agree, Column, Dependency, MeetsDep, MeetsDeps, Shaped, Sort, agrees}

@@ -1,5 +1,5 @@
 -- Select keeps the laws.
-use Rattle.std.proofs.Common.{◌≡◌, ℕ, zero, suc, ◌≤◌, Bool, true, false, not, ◌&&◌, ◌⊎◌, List, [], ◌∷◌, ◌++◌, map, length, sym, refl, ap, ◌∙◌, subst, ap₂, inl, inr, arith}
+use Rattle.std.proofs.Common.{◌≡◌, true, List, ◌++◌, map, sym, ap, ◌∙◌, subst, inl, inr, arith}
 use Rattle.model.specs.Orders.{Order, Total, relation_of}
 use Rattle.model.specs.Revision.{revise}
 use Rattle.model.specs.Selecting.{Predicate, ReadsNoOutput, hidden, select, select_put, select_sort}

@@ -1,6 +1,5 @@
 -- What code may leave out: rows that are ascending need no sorting, and the join's rows are. Equal conditions are equal parts.
-use Rattle.std.proofs.Common.{◌≡◌, ℕ, Bool, true, false, ◌⊎◌, List, [], ◌∷◌, ◌++◌, length, Some, None, Option, sym, refl, ap, ◌∙◌, subst, ap₂, inl, inr}
-use mathlib.Core.Path.{fun_ext}
+use Rattle.std.proofs.Common.{◌≡◌, List, [], ◌∷◌, ◌++◌, length, Some, None, Option, refl, inl, inr}
 use mathlib.Core.HLevel.{is_prop→PathP, Π_prop}
 use mathlib.Core.Bool.{Bool-set}
 use Prim.Native.Nat.{Ordering}

@@ -1,5 +1,5 @@
 -- The worked examples hold, by computing.
-use Rattle.std.proofs.Common.{◌≡◌, ℕ, zero, suc, ◌≤◌, Bool, true, false, ◌&&◌, leb, ◌⊎◌, List, [], ◌∷◌, codes, sym, refl, ap, ◌∙◌, subst, ap₂, inl, inr, arith, leb→le}
+use Rattle.std.proofs.Common.{◌≡◌, ℕ, ◌≤◌, true, false, ◌&&◌, leb, [], ◌∷◌, codes, sym, refl, ap, ◌∙◌, subst, inl, inr, arith, leb→le}
 use mathlib.Core.Bool.{false≢true}
 use Prim.Native.Nat.{compare, Ordering}
 use Rattle.model.specs.Closures.{closure}

@@ -1,6 +1,5 @@
 -- Dependencies in turn: in tree form they can be so arranged, and `in_order` does.
-use Rattle.std.proofs.Common.{◌≡◌, ℕ, zero, suc, ◌≤◌, Bool, true, false, cond, not, ◌&&◌, ◌||◌, ◌⊎◌, List, [], ◌∷◌, ◌++◌, map, length, sym, refl, ap, ◌∙◌, subst, ap₂, inl, inr, true≢false, arith}
-use mathlib.Core.Bool.{false≢true}
+use Rattle.std.proofs.Common.{◌≡◌, ℕ, zero, suc, ◌≤◌, Bool, true, false, cond, not, ◌&&◌, ◌⊎◌, List, [], ◌∷◌, ◌++◌, length, sym, refl, ap, ◌∙◌, subst, inl, inr, true≢false, arith}
 use Rattle.model.specs.ColumnSets.{Apart, ColumnSet, Same, same}
 use Rattle.model.specs.Sorts.{Dependency}
 use Rattle.model.specs.TreeForm.{Leads, RightOnce, TreeForm, after_first, arrange, front, in_order, lead_first, leads_off, more, one, sets}

@@ -1,5 +1,5 @@
 -- A row is revised in one way only, whatever the order of the dependencies.
-use Rattle.std.proofs.Common.{◌≡◌, ℕ, zero, suc, Bool, true, false, ◌⊎◌, List, [], ◌∷◌, Option, sym, refl, ap, ◌∙◌, subst, ap₂, inl, inr}
+use Rattle.std.proofs.Common.{◌≡◌, ℕ, true, false, ◌⊎◌, List, [], ◌∷◌, Option, sym, refl, ◌∙◌, subst, inl, inr}
 use Rattle.model.specs.ColumnSets.{has}
 use Rattle.model.specs.Revision.{Revised, revise, revise_by}
 use Rattle.model.specs.Sorts.{Agree, Dependency, MeetsDeps, Shaped, Sort, agrees}

@@ -1,9 +1,9 @@
 -- Worked examples, computed from the definitions, with the order of the rules.
-use Rattle.std.specs.Prelude.{◌≡◌, ℕ, true, false, List, [], ◌∷◌, Some, None, codes, Option}
-use Rattle.model.specs.Values.{Value, num, text, Tuple, Relation}
+use Rattle.std.specs.Prelude.{◌≡◌, ℕ, true, false, List, [], ◌∷◌, Some, None, codes}
+use Rattle.model.specs.Values.{Value, num, text, Relation}
 use Rattle.model.specs.Orders.{by_bytes}
 use Rattle.model.specs.ColumnSets.{ColumnSet}
-use Rattle.model.specs.Sorts.{Kind, numbers, texts, Column, lookup, Dependency, Sort}
+use Rattle.model.specs.Sorts.{numbers, texts, Column, lookup, Dependency, Sort}
 use Rattle.model.specs.Closures.{closure}
 use Rattle.model.specs.TreeForm.{tree_form}
 use Rattle.model.specs.Faults.{fault}
@@ -14,7 +14,7 @@ use Rattle.model.specs.Conditions.{Condition, compared, bracket, both, equals, a
 use Rattle.model.specs.Selecting.{Predicate}
 use Rattle.model.specs.Opening.{select_fault, drop_fault, rename_fault, join_fault}
 use Rattle.model.specs.Piles.{Pile, source, selecting, dropping, renaming, joining, rules, View, OneView}
-use Rattle.model.specs.Ledger.{open_view, show, try, put, close_view, ok, rows, refused, memory, History, entry, ledger, State}
+use Rattle.model.specs.Ledger.{open_view, show, try, put, close_view, ok, rows, refused, memory, History, entry, ledger}
 use Rattle.model.specs.Promise.{Faithful, empty}
 
 abbrev pub from_to : ColumnSet → ColumnSet → Dependency

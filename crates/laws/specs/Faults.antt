@@ -1,5 +1,5 @@
 -- What is claimed of the faults of a put, a try and a show.
-use Rattle.std.specs.Prelude.{◌≡◌, ℕ, ◌<◌, ◌≤◌, ◌↔◌, List, length, Some, None, Option}
+use Rattle.std.specs.Prelude.{◌≡◌, ℕ, ◌<◌, ◌≤◌, ◌↔◌, List, length, Some, None}
 use Rattle.model.specs.Values.{Value, Relation}
 use Rattle.model.specs.Orders.{Order, Total}
 use Rattle.model.specs.Sorts.{Meets}
@@ -9,7 +9,7 @@ use Rattle.model.specs.Judging.{sort_fault, judge, show_fault}
 use Rattle.model.specs.Refusals.{Due}
 use Rattle.model.specs.Selecting.{Predicate, ReadsNoOutput, select_put, select}
 use Rattle.model.specs.Dropping.{drop_put, drop, MayDrop}
-use Rattle.model.specs.Renaming.{rename, Unused}
+use Rattle.model.specs.Renaming.{rename}
 use Rattle.model.specs.Joining.{left_stores, right_stores, join_right, join_left, join, MayJoin}
 
 -- a show is refused exactly when the slots are fewer than the rows

@@ -1,5 +1,5 @@
 -- What is claimed of opening: a layer opens exactly when its premises hold, and the limits.
-use Rattle.std.specs.Prelude.{◌≡◌, ℕ, ◌≤◌, true, ◌↔◌, List, ◌++◌, length, Some, None, Option}
+use Rattle.std.specs.Prelude.{◌≡◌, ℕ, ◌≤◌, true, ◌↔◌, List, ◌++◌, length, Some, None}
 use Rattle.model.specs.Values.{Value}
 use Rattle.model.specs.Sorts.{lookup, Sort}
 use Rattle.model.specs.Words.{is_name}
@@ -7,7 +7,7 @@ use Rattle.model.specs.Selecting.{Predicate, ReadsNoOutput}
 use Rattle.model.specs.Dropping.{MayDrop}
 use Rattle.model.specs.Renaming.{Unused}
 use Rattle.model.specs.Joining.{join_sort, MayJoin}
-use Rattle.model.specs.Opening.{reads_output, select_fault, drop_fault, rename_fault, join_fault}
+use Rattle.model.specs.Opening.{select_fault, drop_fault, rename_fault, join_fault}
 
 -- a sort within the limits
 pub record Limited (S : Sort) : Type 0 where

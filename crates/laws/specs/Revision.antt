@@ -1,5 +1,5 @@
 -- What is claimed of revision.
-use Rattle.std.specs.Prelude.{◌≡◌, List}
+use Rattle.std.specs.Prelude.{◌≡◌}
 use Rattle.model.specs.Values.{Tuple, Relation, ◌∈◌}
 use Rattle.model.specs.Sorts.{Sort, Shaped, MeetsDeps}
 use Rattle.model.specs.TreeForm.{Formed}

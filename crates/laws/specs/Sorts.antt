@@ -1,5 +1,5 @@
 -- What is claimed of column sets, of columns asked for by their words, and of the test whether a relation meets a sort.
-use Rattle.std.specs.Prelude.{◌≡◌, ℕ, true, ◌↔◌, List, Some, None, Option, ◌≢◌}
+use Rattle.std.specs.Prelude.{◌≡◌, ℕ, true, ◌↔◌, List, Some, None, ◌≢◌}
 use Rattle.model.specs.Values.{Tuple, Relation, ◌∈◌}
 use Rattle.model.specs.Orders.{Order}
 use Rattle.model.specs.ColumnSets.{ColumnSet, Within, Same, Apart, within, same, apart}

@@ -1,5 +1,7 @@
 //! The laws of relational lenses. Each function ensures a theorem of the subject's definitions (crate `model`), for every
 //! total order of values.
+#![tactic(auto)]
+
 ghost use Rattle.laws.specs.Closures.{ArmstrongSound, ClosureDerives, ClosureIsLeast, TreeTest};
 ghost use Rattle.laws.specs.Conditions.{ComparisonsExact, PartEqual, PartsWhole, PickExact, ReadsExact};
 ghost use Rattle.laws.specs.Examples.{Examples, OneViewShown, ViewsShown};

@@ -1,4 +1,6 @@
 //! The librarian: reads a session script and prints what comes of each line.
+#![tactic(auto)]
+
 ghost use Rattle.std.specs.Prelude.{◌≤◌, length, IfOk};
 
 use commands::{Command, Line, parse, split_line};

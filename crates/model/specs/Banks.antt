@@ -1,5 +1,5 @@
 -- Banks: how a relation stands in bytes, and what bytes are read as.
-use Rattle.std.specs.Prelude.{ℕ, zero, suc, ◌+◌, ◌-◌, ◌*◌, ◌/◌, ◌%◌, Bool, cond, List, [], ◌∷◌, ◌++◌, map, length, take, drop, Some, None, Option, ◌==◌, nat_le, nat_lt}
+use Rattle.std.specs.Prelude.{ℕ, zero, suc, ◌+◌, ◌-◌, ◌*◌, ◌/◌, ◌%◌, cond, List, [], ◌∷◌, ◌++◌, map, length, take, drop, Some, None, Option, ◌==◌, nat_le, nat_lt}
 use Rattle.model.specs.Values.{Value, num, text, Tuple, Relation}
 use Rattle.model.specs.Orders.{by_bytes}
 use Rattle.model.specs.Sorts.{Kind, numbers, texts, is_text, Column, admitted, Sort}

@@ -3,7 +3,7 @@ use Rattle.std.specs.Prelude.{Bool, true, false, not, ◌&&◌, ◌||◌, List, 
 use Prim.Native.Nat.{Ordering}
 use Rattle.model.specs.Values.{Tuple, Relation, every}
 use Rattle.model.specs.Orders.{Order, compare_tuples}
-use Rattle.model.specs.Sorts.{of_kind, Column, agrees, Dependency, Part, Sort}
+use Rattle.model.specs.Sorts.{of_kind, Column, agrees, Dependency, Sort}
 use Rattle.model.specs.Tables.{Store}
 
 abbrev pub is_below : Ordering → Bool

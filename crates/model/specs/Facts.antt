@@ -1,5 +1,5 @@
 -- Small facts that the definitions of condition parts need.
-use Rattle.std.specs.Prelude.{◌≡◌, ℕ, zero, suc, Bool, true, false, ◌&&◌, ◌||◌, List, [], ◌∷◌, refl}
+use Rattle.std.specs.Prelude.{◌≡◌, ℕ, zero, suc, Bool, true, false, ◌&&◌, ◌||◌, [], ◌∷◌, refl}
 use Rattle.std.proofs.lemmas.Bool.{false≢true}
 use Rattle.model.specs.Values.{Tuple, cell, tail}
 use Rattle.model.specs.ColumnSets.{ColumnSet, has, union, singleton, Within}

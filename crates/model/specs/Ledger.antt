@@ -3,7 +3,7 @@ use Rattle.std.specs.Prelude.{ℕ, zero, suc, List, [], ◌∷◌, map, Some, No
 use Rattle.model.specs.Values.{Relation}
 use Rattle.model.specs.Orders.{Order}
 use Rattle.model.specs.Faults.{Fault}
-use Rattle.model.specs.Tables.{Store, Rules}
+use Rattle.model.specs.Tables.{Store}
 use Rattle.model.specs.Judging.{judge, show_fault}
 use Rattle.model.specs.Piles.{Pile, rules, places}
 

@@ -1,6 +1,6 @@
 -- The fault that a layer is refused with when it is opened on tables of given sorts: what it asks of them, in the order in which it
 -- asks. The place p is that of the step in the definition's text, or 0 by call.
-use Rattle.std.specs.Prelude.{ℕ, Bool, true, false, cond, not, ◌&&◌, ◌||◌, List, [], ◌∷◌, ◌++◌, map, length, Some, None, Option, nat_le}
+use Rattle.std.specs.Prelude.{ℕ, Bool, true, false, cond, not, ◌&&◌, ◌||◌, List, ◌++◌, map, length, Some, None, Option, nat_le}
 use Rattle.model.specs.Values.{Value, any, every, same_bytes}
 use Rattle.model.specs.ColumnSets.{has, within, apart, non_empty, singleton}
 use Rattle.model.specs.Sorts.{Kind, numbers, texts, of_kind, Column, lookup, all_columns, Dependency, Part, Sort}

@@ -1,5 +1,5 @@
 -- Orders of values, the order of tuples that each gives, and relations in that order.
-use Rattle.std.specs.Prelude.{◌≡◌, ℕ, List, [], ◌∷◌}
+use Rattle.std.specs.Prelude.{◌≡◌, List, [], ◌∷◌}
 use Prim.Native.Nat.{compare, Ordering}
 use Rattle.model.specs.Values.{Value, num, text, Tuple, Relation}
 

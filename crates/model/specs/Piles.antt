@@ -3,7 +3,7 @@ use Rattle.std.specs.Prelude.{◌≡◌, ℕ, zero, suc, ◌<◌, List, [], ◌�
 use Rattle.model.specs.Values.{Value, Tuple, ◌∈◌}
 use Rattle.model.specs.Orders.{Order}
 use Rattle.model.specs.ColumnSets.{ColumnSet, union, Same}
-use Rattle.model.specs.Sorts.{Column, Shaped, Part, admitted, Sort}
+use Rattle.model.specs.Sorts.{Column, Shaped, Part, admitted}
 use Rattle.model.specs.TreeForm.{Formed}
 use Rattle.model.specs.Tables.{Store, Rules, first}
 use Rattle.model.specs.Selecting.{Predicate, ReadsNoOutput, select}

@@ -1,7 +1,6 @@
 -- Columns by their words: a tuple projected to other columns, and column sets, dependencies and parts lifted to more columns.
 use Rattle.std.specs.Prelude.{◌≡◌, ℕ, zero, suc, Bool, true, false, cond, ◌&&◌, ◌||◌, List, [], ◌∷◌, map, length, Some, None, Option, refl}
 use Rattle.std.proofs.Common.{sym, ap, ◌∙◌}
-use Rattle.std.proofs.lemmas.Bool.{false≢true}
 use Rattle.std.specs.Option.{option_map}
 use Rattle.model.specs.Values.{Value, num, Tuple, tail, cell, any, same_bytes}
 use Rattle.model.specs.ColumnSets.{ColumnSet, has, Within}

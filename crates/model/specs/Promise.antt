@@ -4,7 +4,7 @@ use Rattle.model.specs.Values.{Relation, ◌∈◌}
 use Rattle.model.specs.Orders.{Order}
 use Rattle.model.specs.Sorts.{Meets}
 use Rattle.model.specs.Faults.{Fault}
-use Rattle.model.specs.Tables.{Store, Rules, Stored, Fits, Exceeds}
+use Rattle.model.specs.Tables.{Store, Stored, Fits, Exceeds}
 use Rattle.model.specs.Refusals.{Due}
 use Rattle.model.specs.Piles.{Pile, rules, places, View, OneView}
 use Rattle.model.specs.Ledger.{relation_at, State, view_stores, shown, new_stores, Call, open_refused, open_view, show, try, put, close_view, Answer, ok, rows, refused, memory, show_answer, answer, Entry, History, entry, record_entry, ledger}

@@ -1,5 +1,5 @@
 -- Rename: a table with another word for a column of the table below.
-use Rattle.std.specs.Prelude.{◌≡◌, ℕ, zero, suc, List, [], ◌∷◌, ◌≢◌}
+use Rattle.std.specs.Prelude.{ℕ, zero, suc, List, [], ◌∷◌, ◌≢◌}
 use Rattle.model.specs.Values.{◌∈◌}
 use Rattle.model.specs.Sorts.{Column, Sort}
 use Rattle.model.specs.Tables.{Rules}

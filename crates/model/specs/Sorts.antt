@@ -1,9 +1,9 @@
 -- Columns, dependencies, condition parts and sorts, and what it is that a relation meets one.
-use Rattle.std.specs.Prelude.{◌≡◌, ℕ, zero, suc, Bool, true, false, cond, not, ◌&&◌, List, [], ◌∷◌, map, length, Some, None, Option, ◌==◌, ◌≢◌, nat_le}
+use Rattle.std.specs.Prelude.{◌≡◌, ℕ, suc, Bool, true, false, cond, not, ◌&&◌, List, [], ◌∷◌, map, length, Some, None, Option, ◌==◌, ◌≢◌, nat_le}
 use Rattle.std.specs.Option.{option_map}
 use Rattle.model.specs.Values.{Value, num, text, Tuple, Relation, ◌∈◌, every, tail, cell, same_bytes, same_value}
 use Rattle.model.specs.Orders.{Order, Ascending}
-use Rattle.model.specs.ColumnSets.{ColumnSet, has, Within, Apart, non_empty}
+use Rattle.model.specs.ColumnSets.{ColumnSet, has}
 
 -- The kinds of column: numbers, and texts.
 pub data Kind : Type 0 where

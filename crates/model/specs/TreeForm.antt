@@ -1,8 +1,8 @@
 -- Tree form of a list of dependencies, the order in which it is worked, and sorts that may be described.
-use Rattle.std.specs.Prelude.{◌≡◌, ℕ, zero, suc, Bool, true, false, cond, not, ◌&&◌, ◌||◌, ◌⊎◌, List, [], ◌∷◌, ◌++◌, length}
+use Rattle.std.specs.Prelude.{◌≡◌, ℕ, zero, suc, Bool, true, cond, not, ◌&&◌, ◌||◌, ◌⊎◌, List, [], ◌∷◌, ◌++◌, length}
 use Rattle.model.specs.Values.{◌∈◌, any, every, tail}
 use Rattle.model.specs.ColumnSets.{ColumnSet, Within, Same, Apart, same, apart, non_empty}
-use Rattle.model.specs.Sorts.{Dependency, Column, Sort, Distinct, all_columns}
+use Rattle.model.specs.Sorts.{Dependency, Sort, Distinct, all_columns}
 
 -- a way from left to right sets, over one dependency or more
 pub data Leads (D : List Dependency) : ColumnSet → ColumnSet → Type 0 where

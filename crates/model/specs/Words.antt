@@ -1,5 +1,5 @@
 -- Words: the names of tables and columns.
-use Rattle.std.specs.Prelude.{ℕ, Bool, true, false, not, ◌&&◌, List, [], ◌∷◌, length, codes, nat_le}
+use Rattle.std.specs.Prelude.{ℕ, Bool, not, ◌&&◌, List, [], ◌∷◌, length, codes, nat_le}
 use Rattle.model.specs.Values.{any, every, same_bytes}
 
 -- A word is 1 to 12 letters a to z.

@@ -1,4 +1,6 @@
 //! What comes of a command, and how it is printed.
+#![tactic(auto)]
+
 ghost use Rattle.std.specs.Prelude.{◌≡◌, ◌<◌, ◌++◌, IfOk, string_bytes, codes, decimal, OnOk};
 ghost use Rattle.cells.specs.Held.{tuple, tuples};
 ghost use Rattle.cells.specs.Numbered.{told};

@@ -1,4 +1,6 @@
 //! Conditions and definitions as they are written, with columns and tables by their words, which are parts of the text.
+#![tactic(auto)]
+
 mod building;
 mod constants;
 mod phrase;

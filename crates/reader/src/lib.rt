@@ -1,4 +1,6 @@
 //! Conditions and definitions, read from text.
+#![tactic(auto)]
+
 mod conditions;
 mod definitions;
 mod nexts;

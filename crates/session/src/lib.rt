@@ -1,4 +1,6 @@
 //! A session: a caller with tables, of which one at a time may be under description.
+#![tactic(auto)]
+
 mod describing;
 mod rooms;
 mod tables;

@@ -1,4 +1,6 @@
 //! The signs of a text: words, numbers, quoted texts and marks, each a part of the text with its place.
+#![tactic(auto)]
+
 mod classes;
 mod cutting;
 mod reader;

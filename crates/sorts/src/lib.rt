@@ -1,4 +1,6 @@
 //! Sorts: a table is described column by column and dependency by dependency, and then sealed.
+#![tactic(auto)]
+
 mod describing;
 mod description;
 mod offered;

@@ -12,5 +12,5 @@ pub returns : goal.returns
 returns c =
     let C = c.columns.result.now in
     let width : length C ≡ length (map named_column C) = sym (length-map C named_column) in
-    subst (λ D. MatchOption c.first-break-of.result ((k : ℕ) → dep_fault k D [] 0 (tuples c.args.rows.now) ≡ None) (λ p. (k : ℕ) → dep_fault k D [] 0 (tuples c.args.rows.now) ≡ fault 20 k p))
-    (ap (λ n. map (narrowed n) (dependencies c.deps.result.now)) (width ∙ ap length c.columns.ensures.columns) ∙ c.deps.ensures) c.first-break-of.ensures
+    subst (λ D. MatchOption c.first_break_of.result ((k : ℕ) → dep_fault k D [] 0 (tuples c.args.rows.now) ≡ None) (λ p. (k : ℕ) → dep_fault k D [] 0 (tuples c.args.rows.now) ≡ fault 20 k p))
+    (ap (λ n. map (narrowed n) (dependencies c.deps.result.now)) (width ∙ ap length c.columns.ensures.columns) ∙ c.deps.ensures) c.first_break_of.ensures

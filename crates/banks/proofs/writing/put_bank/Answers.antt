@@ -11,7 +11,7 @@ returns c =
     let was = vec_items c.args.out.now in
     let C = c.args.columns.now in
     let R = c.args.rows.now in
-    in_turn was (vec_items c.extend-from-slice.new.self) (vec_items c.put-kinds.new.out) (vec_items c.put-number.new.out) (vec_items c.put_rows.new.out)
+    in_turn was (vec_items c.extend_from_slice.new.self) (vec_items c.put_kinds.new.out) (vec_items c.put_number.new.out) (vec_items c.put_rows.new.out)
     (1 ∷ length C ∷ []) (kinds_of C) (groups (length R)) (coded_rows (tuples R))
-    c.in-ok-extend-from-slice.ensures.items c.in-ok-put-kinds.ensures c.in-ok-put-number.ensures c.in-ok-put-rows.ensures
+    c.in_ok-extend_from_slice.ensures.items c.in_ok-put_kinds.ensures c.in_ok-put_number.ensures c.in_ok-put_rows.ensures
     ∙ ap₂ (λ m n. was ++ 1 ∷ m ∷ (kinds_of C ++ (groups n ++ coded_rows (tuples R)))) (sym (length-map C named_column)) (sym (length-map R tuple))

@@ -5,13 +5,13 @@ use Rattle.banks.specs.Codable.{All, Codable}
 use Rattle.banks.proofs.Coded.{all_at, row_more, rows_more, whole}
 use Rattle.banks.proofs.writing.put_rows.Goals as goal
 
-pub put-row-requires : goal.put-row-requires
-put-row-requires c = all_at (All Codable) tuple c.args.rows.now c.loop-row.row-index c.row-item.result c.requires c.loop-row-test.true c.row-item.is
+pub put_row-requires : goal.put_row-requires
+put_row-requires c = all_at (All Codable) tuple c.args.rows.now c.loop-row.row-index c.row-item.result c.requires c.loop-row-test.true c.row-item.is
 
 pub loop-row-preserved : goal.loop-row-preserved
 loop-row-preserved c =
     let bs = vec_items c.args.out.now in
-    c.in-ok-put-row.ensures
+    c.in_ok-put_row.ensures
     ∙ ap (λ l. l ++ coded_row (tuple c.row-item.result)) c.loop-row.invariant
     ∙ rows_more bs c.args.rows.now c.loop-row.row-index c.row-item.result c.loop-row-test.true c.row-item.is
 

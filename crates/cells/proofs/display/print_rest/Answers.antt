@@ -17,7 +17,7 @@ loop-cell-preserved g c =
     let x = c.cell-item.result in
     let before = c.loop-cell.invariant plain in
     has_written_of_eq g.W.Write.write_str_gives c.args.f.now _ _ c.write.new.self (spaced_more c.args.cells.now i x c.loop-cell-test.true c.cell-item.is)
-    (has_written_append g.W.Write.write_str_gives c.args.f.now (flat_map spaced (map value (take i c.args.cells.now))) c.loop-cell.f (spaced (value x)) c.write.new.self before (c.in-ok-write.ensures.shows before.plain refl))
+    (has_written_append g.W.Write.write_str_gives c.args.f.now (flat_map spaced (map value (take i c.args.cells.now))) c.loop-cell.f (spaced (value x)) c.write.new.self before (c.in_ok-write.ensures.writes before.plain refl))
 
 pub returns : goal.returns
 returns g c =

@@ -20,13 +20,13 @@ t D x l = all D (members x.left) && all D (members x.right)
 next : (D : List Dependency) (x : Dependency) (l : List Dependency) → F D (x ∷ l) ≡ (t D x l && F D l)
 next D x l = and_assoc (all D (members x.left)) (all D (members x.right)) (F D l)
 
-pub returns-then-not-are-near-all : goal.returns-then-not-are-near-all
-returns-then-not-are-near-all c =
-    and_stop (F c.args.deps.now) (t c.args.deps.now) (next c.args.deps.now) c.args.deps.now c.loop-d.d-index c.d-item.result c.loop-d-test.true c.d-item.is (sym c.if-not-are-near-all.ensures) c.loop-d.invariant
+pub returns-then-not-are_near_all : goal.returns-then-not-are_near_all
+returns-then-not-are_near_all c =
+    and_stop (F c.args.deps.now) (t c.args.deps.now) (next c.args.deps.now) c.args.deps.now c.loop-d.d-index c.d-item.result c.loop-d-test.true c.d-item.is (sym c.if-not-are_near_all.ensures) c.loop-d.invariant
 
 pub loop-d-preserved : goal.loop-d-preserved
 loop-d-preserved c =
-    and_go (F c.args.deps.now) (t c.args.deps.now) (next c.args.deps.now) c.args.deps.now c.loop-d.d-index c.d-item.result c.loop-d-test.true c.d-item.is (sym c.if-not-are-near-all.ensures) c.loop-d.invariant
+    and_go (F c.args.deps.now) (t c.args.deps.now) (next c.args.deps.now) c.args.deps.now c.loop-d.d-index c.d-item.result c.loop-d-test.true c.d-item.is (sym c.if-not-are_near_all.ensures) c.loop-d.invariant
 
 pub returns : goal.returns
 returns c = and_end (F c.args.deps.now) c.args.deps.now c.loop-d.d-index refl c.loop-d-test.false c.loop-d.invariant

@@ -17,13 +17,13 @@ t s x l = near (members s) (members x.left) && near (members s) (members x.right
 next : (s : ColumnSet) (x : Dependency) (l : List Dependency) → F s (x ∷ l) ≡ (t s x l && F s l)
 next s x l = and_assoc (near (members s) (members x.left)) (near (members s) (members x.right)) (F s l)
 
-pub returns-then-not-is-near-both : goal.returns-then-not-is-near-both
-returns-then-not-is-near-both c =
-    and_stop (F c.args.x.now) (t c.args.x.now) (next c.args.x.now) c.args.deps.now c.loop-d.d-index c.d-item.result c.loop-d-test.true c.d-item.is (sym c.if-not-is-near-both.ensures) c.loop-d.invariant
+pub returns-then-not-is_near_both : goal.returns-then-not-is_near_both
+returns-then-not-is_near_both c =
+    and_stop (F c.args.x.now) (t c.args.x.now) (next c.args.x.now) c.args.deps.now c.loop-d.d-index c.d-item.result c.loop-d-test.true c.d-item.is (sym c.if-not-is_near_both.ensures) c.loop-d.invariant
 
 pub loop-d-preserved : goal.loop-d-preserved
 loop-d-preserved c =
-    and_go (F c.args.x.now) (t c.args.x.now) (next c.args.x.now) c.args.deps.now c.loop-d.d-index c.d-item.result c.loop-d-test.true c.d-item.is (sym c.if-not-is-near-both.ensures) c.loop-d.invariant
+    and_go (F c.args.x.now) (t c.args.x.now) (next c.args.x.now) c.args.deps.now c.loop-d.d-index c.d-item.result c.loop-d-test.true c.d-item.is (sym c.if-not-is_near_both.ensures) c.loop-d.invariant
 
 pub returns : goal.returns
 returns c = and_end (F c.args.x.now) c.args.deps.now c.loop-d.d-index refl c.loop-d-test.false c.loop-d.invariant

@@ -5,14 +5,14 @@ use Rattle.columns.specs.Members.{dependency, dependencies}
 use Rattle.columns.proofs.Trees.{led_at, led_last}
 use Rattle.columns.proofs.dependencies.leader.Goals as goal
 
-pub returns-then-leads-off : goal.returns-then-leads-off
-returns-then-leads-off c =
+pub returns-then-leads_off : goal.returns-then-leads_off
+returns-then-leads_off c =
     let l = c.args.deps.now in
     let i = c.loop-i.i in
     record {
       within = c.loop-i-test.true;
       leads = led_at (dependencies l) l i c.loop-i-test.true (λ k y g. c.loop-i.invariant k g y)
-          (λ y. ap (λ z. leads_off (dependencies l) (dependency z)) (sym (get_or_read l i c.index-deps-i.result c.loop-i-test.true c.index-deps-i.is y)) ∙ sym c.if-leads-off.ensures);
+          (λ y. ap (λ z. leads_off (dependencies l) (dependency z)) (sym (get_or_read l i c.index-deps-i.result c.loop-i-test.true c.index-deps-i.is y)) ∙ sym c.if-leads_off.ensures);
     }
 
 pub returns : goal.returns

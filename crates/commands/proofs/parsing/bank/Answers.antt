@@ -3,15 +3,15 @@ use Rattle.std.specs.Option.{option_map}
 use Rattle.commands.specs.Forms.{bank, bank_said}
 use Rattle.commands.proofs.Shapes.{at, two_is, two_not}
 use Rattle.commands.proofs.parsing.bank.Goals as goal
-use Rattle.commands.proofs.parsing.bank.Goals.{in-default-via-then-words-lt2, in-default-via-else-words-lt2+else-words-lt3}
+use Rattle.commands.proofs.parsing.bank.Goals.{in_default-via-then-words-lt2, in_default-via-else-words-lt2+else-words-lt3}
 
-pub returns-in-default : goal.returns-in-default
-returns-in-default c = sym (two_not _ c.args.words.now (elim c.in-default.branch [ in-default-via-then-words-lt2 w ↦ search rules | in-default-via-else-words-lt2+else-words-lt3 w ↦ search rules ]))
+pub returns-in_default : goal.returns-in_default
+returns-in_default c = sym (two_not _ c.args.words.now (elim c.in_default.branch [ in_default-via-then-words-lt2 w ↦ search rules | in_default-via-else-words-lt2+else-words-lt3 w ↦ search rules ]))
 
-pub returns-in-default-number : goal.returns-in-default-number
-returns-in-default-number c =
+pub returns-in_default-number : goal.returns-in_default-number
+returns-in_default-number c =
     let two : length c.args.words.now ≡ 2 = search rules in
-    sym (ap bank_said (two_is c.args.words.now two) ∙ ap (option_map (bank (at c.args.words.now 0))) (sym c.in-default-number.ensures))
+    sym (ap bank_said (two_is c.args.words.now two) ∙ ap (option_map (bank (at c.args.words.now 0))) (sym c.in_default-number.ensures))
 
 pub returns : goal.returns
 returns c =

@@ -9,8 +9,8 @@ use Rattle.commands.proofs.Shapes.{two_more_is, heading_short, none_is, rest}
 use Rattle.commands.proofs.Readings.{before, before_lead}
 use Rattle.commands.proofs.parsing.columns_named.Goals as goal
 
-pub returns-in-default : goal.returns-in-default
-returns-in-default c =
+pub returns-in_default : goal.returns-in_default
+returns-in_default c =
     let left = c.loop-rest.rest.now in
     let some : 1 ≤ length left = omega (arith, false-eqb _ 0 c.loop-rest-test.ensures) in
     let few : length left ≤ 1 = search rules in
@@ -22,7 +22,7 @@ loop-rest-preserved c =
     let left = c.loop-rest.rest.now in
     let others = headings_said (texts (rest 2 left)) in
     let two : 2 ≤ length left = search rules in
-    c.loop-rest.invariant ∙ ap (before (map offered_column done)) (ap headings_said (two_more_is left two) ∙ ap (λ o. and_then o (λ h. option_map (λ C. h ∷ C) others)) (sym c.in-Some.ensures)) ∙ before_lead (map offered_column done) (offered_column c.in-Some.column) others ∙ ap (λ l. before l others) (sym (ap (map offered_column) c.in-ok-push.ensures.items ∙ map_push offered_column done c.in-Some.column))
+    c.loop-rest.invariant ∙ ap (before (map offered_column done)) (ap headings_said (two_more_is left two) ∙ ap (λ o. and_then o (λ h. option_map (λ C. h ∷ C) others)) (sym c.in-Some.ensures)) ∙ before_lead (map offered_column done) (offered_column c.in-Some.column) others ∙ ap (λ l. before l others) (sym (ap (map offered_column) c.in_ok-push.ensures.items ∙ map_push offered_column done c.in-Some.column))
 
 pub returns : goal.returns
 returns c =

@@ -7,12 +7,12 @@ use Rattle.commands.proofs.parsing.hex_bytes.Goals as goal
 pub loop-word-init : goal.loop-word-init
 loop-word-init c = given_none hex_pair (λ w. w.now) c.args.words.now _ c.new-bytes.ensures.items
 
-pub returns-in-default : goal.returns-in-default
-returns-in-default c = sym (given_not hex_pair (λ w. w.now) c.args.words.now c.loop-word.word-index no_ref _ c.loop-word-test.true (sym c.in-default.ensures) c.loop-word.invariant)
+pub returns-in_default : goal.returns-in_default
+returns-in_default c = sym (given_not hex_pair (λ w. w.now) c.args.words.now c.loop-word.word-index no_ref _ c.loop-word-test.true (sym c.in_default.ensures) c.loop-word.invariant)
 
 pub loop-word-preserved : goal.loop-word-preserved
 loop-word-preserved c =
-    subst (Given hex_pair (λ w. w.now) c.args.words.now (c.loop-word.word-index + 1)) (sym c.in-ok-push.ensures.items)
+    subst (Given hex_pair (λ w. w.now) c.args.words.now (c.loop-word.word-index + 1)) (sym c.in_ok-push.ensures.items)
     (given_more hex_pair (λ w. w.now) c.args.words.now c.loop-word.word-index no_ref _ c.in-Some.byte c.loop-word-test.true (sym c.in-Some.ensures) c.loop-word.invariant)
 
 pub returns : goal.returns

@@ -9,5 +9,5 @@ compares = record { empty = refl; shorter = λ y ys. refl; longer = λ x xs. ref
 
 pub returns : goal.returns
 returns c =
-    let same = subst (λ bs. Decides c.eq.result (c.args.word.now ≡ bs)) c.as-bytes.ensures.value (slice_eq-Decides Decides-eqb _ _ _ c.eq.ensures) in
+    let same = subst (λ bs. Decides c.eq.result (c.args.word.now ≡ bs)) c.as_bytes.ensures.value (slice_eq-Decides Decides-eqb _ _ _ c.eq.ensures) in
     same_from_decides _ _ same (compares_Decides same_bytes compares c.args.word.now c.args.name.now)

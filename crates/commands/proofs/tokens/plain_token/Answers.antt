@@ -1,19 +1,19 @@
 use Rattle.std.proofs.Common.{◌≡◌, length, sym, ap, ◌∙◌, arith, true-eqb, false-eqb}
 use Rattle.commands.proofs.Readings.{plain_some, plain_unbounded, plain_empty, behind_shorter}
 use Rattle.commands.proofs.tokens.plain_token.Goals as goal
-use Rattle.commands.proofs.tokens.plain_token.Goals.{else-not-is-empty-via-then-not-is-empty+else-ends-token, else-not-is-empty-via-else-not-is-empty}
+use Rattle.commands.proofs.tokens.plain_token.Goals.{else-not-is_empty-via-then-not-is_empty+else-ends_token, else-not-is_empty-via-else-not-is_empty}
 
-pub returns-then-ends-token : goal.returns-then-ends-token
-returns-then-ends-token c =
-    let word = c.split-run.result.0.now in
-    let after = c.split-run.result.1.now in
-    plain_some c.args.text.now c.requires.1 c.requires.0 word after c.split-run.ensures.front c.split-run.ensures.behind (false-eqb _ 0 c.if-not-is-empty.ensures) (sym c.if-ends-token.ensures)
+pub returns-then-ends_token : goal.returns-then-ends_token
+returns-then-ends_token c =
+    let word = c.split_run.result.0.now in
+    let after = c.split_run.result.1.now in
+    plain_some c.args.text.now c.requires.1 c.requires.0 word after c.split_run.ensures.front c.split_run.ensures.behind (false-eqb _ 0 c.if-not-is_empty.ensures) (sym c.if-ends_token.ensures)
 
-pub returns-else-not-is-empty : goal.returns-else-not-is-empty
-returns-else-not-is-empty c =
-    let word = c.split-run.result.0.now in
-    let after = c.split-run.result.1.now in
-    elim c.else-not-is-empty.branch [
-      | else-not-is-empty-via-then-not-is-empty+else-ends-token w ↦ plain_unbounded c.args.text.now c.requires.1 c.requires.0 after c.split-run.ensures.behind (sym w.if-ends-token.ensures)
-      | else-not-is-empty-via-else-not-is-empty w ↦ plain_empty c.args.text.now c.requires.1 c.requires.0 word c.split-run.ensures.front (true-eqb _ 0 w.if-not-is-empty.ensures)
+pub returns-else-not-is_empty : goal.returns-else-not-is_empty
+returns-else-not-is_empty c =
+    let word = c.split_run.result.0.now in
+    let after = c.split_run.result.1.now in
+    elim c.else-not-is_empty.branch [
+      | else-not-is_empty-via-then-not-is_empty+else-ends_token w ↦ plain_unbounded c.args.text.now c.requires.1 c.requires.0 after c.split_run.ensures.behind (sym w.if-ends_token.ensures)
+      | else-not-is_empty-via-else-not-is_empty w ↦ plain_empty c.args.text.now c.requires.1 c.requires.0 word c.split_run.ensures.front (true-eqb _ 0 w.if-not-is_empty.ensures)
     ]

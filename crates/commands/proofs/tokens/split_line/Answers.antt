@@ -7,9 +7,9 @@ use Rattle.commands.proofs.tokens.split_line.Goals as goal
 
 pub returns-in-len1-up : goal.returns-in-len1-up
 returns-in-len1-up c =
-    let some : 1 ≤ length c.split-run.result.1.now = search rules in
+    let some : 1 ≤ length c.split_run.result.1.now = search rules in
     record {
-      line = c.split-run.ensures.front;
-      rest = tail_is c.split-run.result.1.now ∙ ap tail c.split-run.ensures.behind;
-      shorter = omega (arith, rest_length c.split-run.result.1.now some, ap length c.split-run.ensures.behind, behind_short (within Line) c.args.text.now);
+      line = c.split_run.ensures.front;
+      rest = tail_is c.split_run.result.1.now ∙ ap tail c.split_run.ensures.behind;
+      shorter = omega (arith, rest_length c.split_run.result.1.now some, ap length c.split_run.ensures.behind, behind_short (within Line) c.args.text.now);
     }

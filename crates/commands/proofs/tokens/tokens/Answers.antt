@@ -15,4 +15,4 @@ pub loop-rest-preserved : goal.loop-rest-preserved
 loop-rest-preserved c =
     let done = vec_items c.loop-rest.all in
     let others = tokens_of c.in-Some.after.now in
-    c.loop-rest.invariant ∙ ap (before (map lexeme done)) c.in-Some.ensures.0 ∙ before_lead (map lexeme done) (lexeme c.in-Some.token) others ∙ ap (λ l. before l others) (sym (ap (map lexeme) c.in-ok-push.ensures.items ∙ map_push lexeme done c.in-Some.token))
+    c.loop-rest.invariant ∙ ap (before (map lexeme done)) c.in-Some.ensures.0 ∙ before_lead (map lexeme done) (lexeme c.in-Some.token) others ∙ ap (λ l. before l others) (sym (ap (map lexeme) c.in_ok-push.ensures.items ∙ map_push lexeme done c.in-Some.token))

@@ -7,14 +7,14 @@ decreases-negation l = 8 * (length l.reader.now.text.now - l.reader.now.at)
 abbrev pub decreases-negated : goal.decreases-negated
 decreases-negated l = 8 * (length l.reader.now.text.now - l.reader.now.at) + 1
 
-abbrev pub decreases-and-more : goal.decreases-and-more
-decreases-and-more l = 8 * (length l.reader.now.text.now - l.reader.now.at) + 1
+abbrev pub decreases-and_more : goal.decreases-and_more
+decreases-and_more l = 8 * (length l.reader.now.text.now - l.reader.now.at) + 1
 
 abbrev pub decreases-conjunction : goal.decreases-conjunction
 decreases-conjunction l = 8 * (length l.reader.now.text.now - l.reader.now.at) + 2
 
-abbrev pub decreases-or-more : goal.decreases-or-more
-decreases-or-more l = 8 * (length l.reader.now.text.now - l.reader.now.at) + 3
+abbrev pub decreases-or_more : goal.decreases-or_more
+decreases-or_more l = 8 * (length l.reader.now.text.now - l.reader.now.at) + 3
 
 abbrev pub decreases-condition : goal.decreases-condition
 decreases-condition l = 8 * (length l.reader.now.text.now - l.reader.now.at) + 4

@@ -4,8 +4,8 @@ use Rattle.reader.proofs.definitions.+add_definition_joined_nested_source_step_m
 abbrev pub decreases-source : goal.decreases-source
 decreases-source l = 8 * (length l.reader.now.text.now - l.reader.now.at) + 1
 
-abbrev pub decreases-step-more : goal.decreases-step-more
-decreases-step-more l = 8 * (length l.reader.now.text.now - l.reader.now.at) + 0
+abbrev pub decreases-step_more : goal.decreases-step_more
+decreases-step_more l = 8 * (length l.reader.now.text.now - l.reader.now.at) + 0
 
 abbrev pub decreases-joined : goal.decreases-joined
 decreases-joined l = 8 * (length l.reader.now.text.now - l.reader.now.at) + 2

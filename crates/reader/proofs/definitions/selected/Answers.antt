@@ -8,4 +8,4 @@ pub returns : goal.returns
 returns c =
     let b = c.args.reader.now.text.now in
     let a = c.args.reader.now.at in
-    record { same = search rules; onward = search rules; said = select_said (λ K. from b a (a_condition c.args.depth K)) b c.in-ok-phrase.phrase c.condition.new.reader.at c.in-ok-phrase.ensures.said }
+    record { same = search rules; onward = search rules; said = select_said (λ K. from b a (a_condition c.args.depth K)) b c.in_ok-phrase.phrase c.condition.new.reader.at c.in_ok-phrase.ensures.said }

@@ -9,13 +9,13 @@ returns-then-n-gt-GREATEST c =
     let b = c.args.digits.now in
     let i = c.loop-d.d-index in
     let e = c.loop-d.invariant.0 ∙ after_more c.loop-d.n b i c.loop-d-test.true in
-    lt-leb (decimal b) 268435455 (omega (arith, e, c.from.ensures, c.saturating-sub.ensures, after_grows (drop (i + 1) b) (c.loop-d.n * 10 + (get_or b i 0 - 0x30))))
+    lt-leb (decimal b) 268435455 (omega (arith, e, c.from.ensures, c.saturating_sub.ensures, after_grows (drop (i + 1) b) (c.loop-d.n * 10 + (get_or b i 0 - 0x30))))
 
 pub loop-d-preserved : goal.loop-d-preserved
 loop-d-preserved c =
     let b = c.args.digits.now in
     let i = c.loop-d.d-index in
-    let d = c.from.ensures ∙ c.saturating-sub.ensures in
+    let d = c.from.ensures ∙ c.saturating_sub.ensures in
     (c.loop-d.invariant.0 ∙ (after_more c.loop-d.n b i c.loop-d-test.true ∙ ap (λ x. decimal_after (c.loop-d.n * 10 + x) (drop (i + 1) b)) (sym d)), search rules)
 
 pub returns : goal.returns

@@ -8,22 +8,22 @@ use Rattle.reader.specs.Judging.{spelt}
 use Rattle.reader.proofs.Judges.{judged_err, operand_word, operand_cell}
 use Rattle.reader.proofs.terminals.operand.Goals as goal
 
-pub returns-in-err-w : goal.returns-in-err-w
-returns-in-err-w c =
+pub returns-in_err-w : goal.returns-in_err-w
+returns-in_err-w c =
     let p = c.args.token.place in
     let s = c.args.token.sign in
-    let r = err_from_is_err_and c.from-residual.result c.from-residual.ensures.1 in
-    rw (r.1, r.2) (judged_err (on_word p (said s)) (on_operand p (said s)) spelt term named (operand_word p s c.in-Word.field-0 c.in-Word.is) c.in-err-w.field-0.0 c.in-err-w.ensures)
+    let r = err_from_is_err_and c.from_residual.result c.from_residual.ensures.1 in
+    rw (r.1, r.2) (judged_err (on_word p (said s)) (on_operand p (said s)) spelt term named (operand_word p s c.in-Word.field-0 c.in-Word.is) c.in_err-w.field-0.0 c.in_err-w.ensures)
 
-pub returns-in-err-c : goal.returns-in-err-c
-returns-in-err-c c =
+pub returns-in_err-c : goal.returns-in_err-c
+returns-in_err-c c =
     let p = c.args.token.place in
     let s = c.args.token.sign in
-    let r = err_from_is_err_and c.from-residual-in-err-c.result c.from-residual-in-err-c.ensures.1 in
-    rw (r.1, r.2) (judged_err (on_cell p (said s)) (on_operand p (said s)) constant term given (operand_cell p s c.in-default.not-Word) c.in-err-c.field-0.0 c.in-err-c.ensures)
+    let r = err_from_is_err_and c.from_residual-in_err-c.result c.from_residual-in_err-c.ensures.1 in
+    rw (r.1, r.2) (judged_err (on_cell p (said s)) (on_operand p (said s)) constant term given (operand_cell p s c.in_default.not-Word) c.in_err-c.field-0.0 c.in_err-c.ensures)
 
-pub returns-in-ok-w : goal.returns-in-ok-w
-returns-in-ok-w c = λ k. operand_word c.args.token.place c.args.token.sign c.in-Word.field-0 c.in-Word.is k ∙ c.in-ok-w.ensures (λ w. k (named w))
+pub returns-in_ok-w : goal.returns-in_ok-w
+returns-in_ok-w c = λ k. operand_word c.args.token.place c.args.token.sign c.in-Word.field-0 c.in-Word.is k ∙ c.in_ok-w.ensures (λ w. k (named w))
 
-pub returns-in-ok-c : goal.returns-in-ok-c
-returns-in-ok-c c = λ k. operand_cell c.args.token.place c.args.token.sign c.in-default.not-Word k ∙ c.in-ok-c.ensures (λ v. k (given v))
+pub returns-in_ok-c : goal.returns-in_ok-c
+returns-in_ok-c c = λ k. operand_cell c.args.token.place c.args.token.sign c.in_default.not-Word k ∙ c.in_ok-c.ensures (λ v. k (given v))

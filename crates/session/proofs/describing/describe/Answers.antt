@@ -6,14 +6,14 @@ use Rattle.sorts.proofs.Refusing.{passes}
 use Rattle.session.proofs.Checks.{names_are}
 use Rattle.session.proofs.describing.describe.Goals as goal
 
-pub returns-in-err-name : goal.returns-in-err-name
-returns-in-err-name c =
-    let p = err_from_is_err_and c.from-residual.result c.from-residual.ensures.1 in
+pub returns-in_err-name : goal.returns-in_err-name
+returns-in_err-name c =
+    let p = err_from_is_err_and c.from_residual.result c.from_residual.ensures.1 in
     let same = ap (λ N. table_fault N c.args.name.now (offered_columns c.args.columns.now) c.args.room) (names_are c.args.tables.now) in
-    rw (p.1, p.2) (passes _ _ _ (λ f h. sym same ∙ h) c.in-err-name.ensures)
+    rw (p.1, p.2) (passes _ _ _ (λ f h. sym same ∙ h) c.in_err-name.ensures)
 
 pub returns : goal.returns
 returns c =
     let same = ap (λ N. table_fault N c.args.name.now (offered_columns c.args.columns.now) c.args.room) (names_are c.args.tables.now) in
-    let a = c.in-ok-name.ensures in
+    let a = c.in_ok-name.ensures in
     (sym same ∙ a.0, (a.1.0, a.1.1))

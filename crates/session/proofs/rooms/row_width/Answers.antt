@@ -8,8 +8,8 @@ pub loop-column-preserved : goal.loop-column-preserved
 loop-column-preserved c =
     let x = c.column-item.result in
     let here = ap (λ y. cell_width (kind_of y.kind)) c.column-item.is in (
-      omega (arith, c.loop-column.invariant.0, width_more c.args.columns.now c.loop-column.column-index x c.loop-column-test.true, here, c.cell-width-width.ensures),
-      omega (arith, c.loop-column.invariant.1, width_most (kind_of x.kind), c.cell-width-width.ensures),
+      omega (arith, c.loop-column.invariant.0, width_more c.args.columns.now c.loop-column.column-index x c.loop-column-test.true, here, c.cell_width-width.ensures),
+      omega (arith, c.loop-column.invariant.1, width_most (kind_of x.kind), c.cell_width-width.ensures),
       c.loop-column.invariant.2,
     )
 

@@ -8,4 +8,4 @@ pub returns-in-Ok : goal.returns-in-Ok
 returns-in-Ok c =
     let sheet = c.args.sheet.now in
     let wrote = c.in-Ok.ensures in
-    bank_cut (bank (store sheet).sort.columns (relation sheet)) c.deref-mut.result.now c.write-bank.new.out _ _ c.in-Ok.n _ c.args.size wrote.0 wrote.1 wrote.2 c.truncate.ensures.items c.deref-mut.ensures.value c.in-ok-bytes.bytes.ok.0 c.in-ok-bytes.ensures.len
+    bank_cut (bank (store sheet).sort.columns (relation sheet)) c.deref_mut.result.now c.write_bank.new.out _ _ c.in-Ok.n _ c.args.size wrote.0 wrote.1 wrote.2 c.truncate.ensures.items c.deref_mut.ensures.value c.in_ok-bytes.bytes.ok.0 c.in_ok-bytes.ensures.len

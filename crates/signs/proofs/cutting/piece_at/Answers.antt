@@ -10,11 +10,11 @@ returns-then-b-eq34 c =
     let b = c.args.text.now in
     let p = c.args.place in
     let e = c.quote.ensures ∙ ap (λ r. quote_piece (quote_sign p r)) (take_rest b (p + 1)) in
-    e ∙ sym (as_quote p (before b p) (get_or b p 0) (drop (p + 1) b) (sym c.if-is-stray.ensures) (sym c.if-has.ensures) (sym c.if-has-2.ensures) (search rules))
+    e ∙ sym (as_quote p (before b p) (get_or b p 0) (drop (p + 1) b) (sym c.if-is_stray.ensures) (sym c.if-has.ensures) (sym c.if-has-2.ensures) (search rules))
 
 pub returns : goal.returns
 returns c =
     let b = c.args.text.now in
     let p = c.args.place in
-    let e = c.mark-of.ensures ∙ ap (mark (get_or b p 0)) (c.is-equals.ensures ∙ ap equals_next (take_rest b (p + 1))) in
-    e ∙ sym (as_mark p (before b p) (get_or b p 0) (drop (p + 1) b) (sym c.if-is-stray.ensures) (sym c.if-has.ensures) (sym c.if-has-2.ensures) (search rules))
+    let e = c.mark_of.ensures ∙ ap (mark (get_or b p 0)) (c.is_equals.ensures ∙ ap equals_next (take_rest b (p + 1))) in
+    e ∙ sym (as_mark p (before b p) (get_or b p 0) (drop (p + 1) b) (sym c.if-is_stray.ensures) (sym c.if-has.ensures) (sym c.if-has-2.ensures) (search rules))

@@ -8,6 +8,6 @@ pub returns : goal.returns
 returns c =
     let rest = c.args.rest.now in
     let n = c.run.ensures.value in
-    let h = c.split-at.ensures.front ∙ ap (λ n. take n rest) n ∙ front_take is_text_byte rest in
-    let a = c.split-at.ensures.back ∙ ap (λ n. drop n rest) n in
-    c.quote-end.ensures ∙ ap₂ (λ b r. quote_piece (quote_end c.args.place b r)) h a
+    let h = c.split_at.ensures.front ∙ ap (λ n. take n rest) n ∙ front_take is_text_byte rest in
+    let a = c.split_at.ensures.back ∙ ap (λ n. drop n rest) n in
+    c.quote_end.ensures ∙ ap₂ (λ b r. quote_piece (quote_end c.args.place b r)) h a

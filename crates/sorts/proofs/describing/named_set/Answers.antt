@@ -25,5 +25,5 @@ loop-i-preserved c =
     let e : c.loop-i.i ≡ c.loop-i.i - 1 + 1 = omega arith in
     let Y = named_set C (drop (c.loop-i.i - 1 + 1) (words c.args.names.now)) in
     c.loop-i.invariant ∙ ap (λ k. named_set C (drop k (words c.args.names.now))) e
-    ∙ ap (λ p. with_place p Y) c.in-default.ensures
+    ∙ ap (λ p. with_place p Y) c.in_default.ensures
     ∙ sym (fold_at (named_set C) c.args.names.now (c.loop-i.i - 1) _ (omega arith))

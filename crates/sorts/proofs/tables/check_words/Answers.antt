@@ -10,16 +10,16 @@ use Rattle.sorts.proofs.tables.check_words.Goals as goal
 abbrev F : List NewColumn → Option Fault
 F l = words_fault (column_words (offered_columns l))
 
-pub returns-then-not-is-name : goal.returns-then-not-is-name
-returns-then-not-is-name c =
+pub returns-then-not-is_name : goal.returns-then-not-is_name
+returns-then-not-is_name c =
     let rest = F (drop (c.loop-column.column-index + 1) c.args.columns.now) in
     refuses _ c.of.result _ c.of.ensures
-    (sym c.loop-column.invariant ∙ at_drop_more F c.args.columns.now c.loop-column.column-index _ c.loop-column-test.true ∙ ap (λ b. or_then (cond b None (fault 3 0 0)) rest) (sym c.if-not-is-name.ensures))
+    (sym c.loop-column.invariant ∙ at_drop_more F c.args.columns.now c.loop-column.column-index _ c.loop-column-test.true ∙ ap (λ b. or_then (cond b None (fault 3 0 0)) rest) (sym c.if-not-is_name.ensures))
 
 pub loop-column-preserved : goal.loop-column-preserved
 loop-column-preserved c =
     let rest = F (drop (c.loop-column.column-index + 1) c.args.columns.now) in
-    ap (λ b. or_then (cond b None (fault 3 0 0)) rest) c.if-not-is-name.ensures ∙ sym (at_drop_more F c.args.columns.now c.loop-column.column-index _ c.loop-column-test.true) ∙ c.loop-column.invariant
+    ap (λ b. or_then (cond b None (fault 3 0 0)) rest) c.if-not-is_name.ensures ∙ sym (at_drop_more F c.args.columns.now c.loop-column.column-index _ c.loop-column-test.true) ∙ c.loop-column.invariant
 
 pub returns : goal.returns
 returns c = (sym c.loop-column.invariant ∙ at_drop_all F c.args.columns.now c.loop-column.column-index c.loop-column-test.false, tt)

@@ -9,16 +9,16 @@ use Rattle.banks.proofs.Texts.{passed_on}
 use Rattle.banks.proofs.Loops.{cells_after, cells_step, cells_stop, cells_end}
 use Rattle.banks.proofs.cursor.Cursor.row.Goals as goal
 
-pub returns-in-err-cell : goal.returns-in-err-cell
-returns-in-err-cell c =
-    let p = err_from_is_err_and c.from-residual.result c.from-residual.ensures.1 in
+pub returns-in_err-cell : goal.returns-in_err-cell
+returns-in_err-cell c =
+    let p = err_from_is_err_and c.from_residual.result c.from_residual.ensures.1 in
     let size = c.args.self.now.size in
     let C = c.args.columns.now in
     let s = map value (vec_items c.loop-c.cells) in
     let b = c.loop-c.self.rest.now in
     let k = kind_of c.c-item.result.kind in
-    passed_on tuple c.loop-c.self.kind size c.args.self.now.kind c.cell.new.self (read_cell c.loop-c.self.size k b) (read_cells size (map named_column C) c.args.self.now.rest.now) c.in-err-cell.field-0.0 c.from-residual.result
-    c.in-err-cell.ensures
+    passed_on tuple c.loop-c.self.kind size c.args.self.now.kind c.cell.new.self (read_cell c.loop-c.self.size k b) (read_cells size (map named_column C) c.args.self.now.rest.now) c.in_err-cell.field-0.0 c.from_residual.result
+    c.in_err-cell.ensures
     (λ n q e. c.loop-c.invariant.2 ∙ cells_stop size C c.loop-c.c-index c.loop-c-test.true c.c-item.result c.c-item.is s b n q (ap (λ m. read_cell m k b) (sym c.loop-c.invariant.0) ∙ e))
     c.loop-c.invariant.1 (p.1 ∙ ap Err p.2)
 
@@ -28,10 +28,10 @@ loop-c-preserved c =
     let C = c.args.columns.now in
     let i = c.loop-c.c-index in
     let s = map value (vec_items c.loop-c.cells) in
-    let e = c.in-ok-cell.ensures in
-    let v = value c.in-ok-cell.cell in
+    let e = c.in_ok-cell.ensures in
+    let v = value c.in_ok-cell.cell in
     let read : read_cell size (kind_of c.c-item.result.kind) c.loop-c.self.rest.now ≡ found v c.cell.new.self.rest.now = ap (λ n. read_cell n (kind_of c.c-item.result.kind) c.loop-c.self.rest.now) (sym c.loop-c.invariant.0) ∙ e.0 in
-    let more : s ++ v ∷ [] ≡ map value (vec_items c.push.new.self) = sym (map_push value (vec_items c.loop-c.cells) c.in-ok-cell.cell) ∙ ap (map value) (sym c.in-ok-push.ensures.items) in (
+    let more : s ++ v ∷ [] ≡ map value (vec_items c.push.new.self) = sym (map_push value (vec_items c.loop-c.cells) c.in_ok-cell.cell) ∙ ap (map value) (sym c.in_ok-push.ensures.items) in (
       e.1 ∙ c.loop-c.invariant.0,
       e.2 ∙ c.loop-c.invariant.1,
       c.loop-c.invariant.2

@@ -6,8 +6,8 @@ use Rattle.banks.specs.Sheets.{relation}
 use Rattle.banks.proofs.Sound.{meets_codable}
 use Rattle.banks.proofs.sheet.Sheet.write_bank.Goals as goal
 
-pub put-bank-requires : goal.put-bank-requires
-put-bank-requires c =
+pub put_bank-requires : goal.put_bank-requires
+put_bank-requires c =
     let s = c.args.self.now in (
       omega (arith, c.columns.ensures.few),
       (

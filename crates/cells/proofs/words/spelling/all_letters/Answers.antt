@@ -6,8 +6,8 @@ use Rattle.cells.proofs.words.spelling.all_letters.Goals as goal
 pub loop-b-preserved : goal.loop-b-preserved
 loop-b-preserved c = search (rules, every_more is_letter)
 
-pub returns-then-not-is-letter : goal.returns-then-not-is-letter
-returns-then-not-is-letter c = every_fails is_letter c.args.bytes.now c.loop-b.b-index _ 0 c.loop-b-test.true (search rules) c.loop-b.invariant
+pub returns-then-not-is_letter : goal.returns-then-not-is_letter
+returns-then-not-is_letter c = every_fails is_letter c.args.bytes.now c.loop-b.b-index _ 0 c.loop-b-test.true (search rules) c.loop-b.invariant
 
 pub returns : goal.returns
 returns c = search (rules, every_all is_letter)

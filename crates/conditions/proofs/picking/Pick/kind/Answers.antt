@@ -9,4 +9,4 @@ index-requires c = omega (arith, choice_some value (vec_items c.args.self.now.ce
 pub returns : goal.returns
 returns c =
     first_at value (vec_items c.args.self.now.cells) c.index.result.now (choice_some value (vec_items c.args.self.now.cells) c.args.self.now.proper) c.index.ensures
-    ∙ ap Some (sym c.kind-of.ensures)
+    ∙ ap Some (sym c.kind_of.ensures)

@@ -9,8 +9,8 @@ pub loop-cell-preserved : goal.loop-cell-preserved
 loop-cell-preserved c =
     every_more (λ x. of_kind (kind_of c.args.kind) (value x)) c.args.cells.now c.loop-cell.cell-index _ c.cell-item.result c.loop-cell-test.true (search rules) c.loop-cell.invariant
 
-pub returns-then-not-is-of : goal.returns-then-not-is-of
-returns-then-not-is-of c =
+pub returns-then-not-is_of : goal.returns-then-not-is_of
+returns-then-not-is_of c =
     every_fails (λ x. of_kind (kind_of c.args.kind) (value x)) c.args.cells.now c.loop-cell.cell-index _ c.cell-item.result c.loop-cell-test.true (search rules) c.loop-cell.invariant
     ∙ every_map (of_kind (kind_of c.args.kind)) value c.args.cells.now
 

@@ -8,4 +8,4 @@ returns-in-None c = kind_none value c.args.cells.now (omega (arith, c.in-None.en
 
 pub returns-in-Some : goal.returns-in-Some
 returns-in-Some c =
-    kind_first value c.args.cells.now c.in-Some.first.now _ _ c.in-Some.ensures.item.3.0 c.in-Some.ensures.item.1 c.kind-of.ensures c.are-of.ensures
+    kind_first value c.args.cells.now c.in-Some.first.now _ _ c.in-Some.ensures.item.3.0 c.in-Some.ensures.item.1 c.kind_of.ensures c.are_of.ensures

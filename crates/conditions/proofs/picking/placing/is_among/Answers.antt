@@ -8,12 +8,12 @@ use Rattle.conditions.proofs.picking.placing.is_among.Goals as goal
 pub loop-other-preserved : goal.loop-other-preserved
 loop-other-preserved c =
     any_more (λ x. same_value (value c.args.cell.now) (value x)) c.args.cells.now c.loop-other.other-index _ c.other-item.result c.loop-other-test.true
-    (ap (λ x. same_value (value c.args.cell.now) (value x)) (sym c.other-item.is) ∙ sym c.if-is-same.ensures) c.loop-other.invariant
+    (ap (λ x. same_value (value c.args.cell.now) (value x)) (sym c.other-item.is) ∙ sym c.if-is_same.ensures) c.loop-other.invariant
 
-pub returns-then-is-same : goal.returns-then-is-same
-returns-then-is-same c =
+pub returns-then-is_same : goal.returns-then-is_same
+returns-then-is_same c =
     any_found (λ x. same_value (value c.args.cell.now) (value x)) c.args.cells.now c.loop-other.other-index _ c.other-item.result c.loop-other-test.true
-    (ap (λ x. same_value (value c.args.cell.now) (value x)) (sym c.other-item.is) ∙ sym c.if-is-same.ensures) c.loop-other.invariant
+    (ap (λ x. same_value (value c.args.cell.now) (value x)) (sym c.other-item.is) ∙ sym c.if-is_same.ensures) c.loop-other.invariant
     ∙ any_map (same_value (value c.args.cell.now)) value c.args.cells.now
 
 pub returns : goal.returns

@@ -9,6 +9,6 @@ returns-in-Some c =
     let self = c.args.self.now in
     let n = c.args.name.now in
     let b = c.args.bytes.now in
-    let x = c.index-mut.result.now in
-    let idle = sym c.if-is-some.ensures in
-    load_at self n c.deref.result.now c.in-Some.i x idle c.deref.ensures.value c.in-Some.ensures c.index-mut.ensures.value b c.read_bank.new.self c.read_bank.result c.accepted.result _ (on_it self n c.deref.result.now c.in-Some.i x idle c.deref.ensures.value c.in-Some.ensures c.index-mut.ensures.value (λ t. loaded (caller self) n (read_bank t.kind t.sort t.room b))) c.read_bank.ensures c.accepted.ensures
+    let x = c.index_mut.result.now in
+    let idle = sym c.if-is_some.ensures in
+    load_at self n c.deref.result.now c.in-Some.i x idle c.deref.ensures.value c.in-Some.ensures c.index_mut.ensures.value b c.read_bank.new.self c.read_bank.result c.accepted.result _ (on_it self n c.deref.result.now c.in-Some.i x idle c.deref.ensures.value c.in-Some.ensures c.index_mut.ensures.value (λ t. loaded (caller self) n (read_bank t.kind t.sort t.room b))) c.read_bank.ensures c.accepted.ensures

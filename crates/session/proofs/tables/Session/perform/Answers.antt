@@ -8,5 +8,5 @@ pub returns-in-Dep : goal.returns-in-Dep
 returns-in-Dep c =
     let from = caller c.args.self.now in
     subst (λ r. Replies from r c.dependency.result (caller c.dependency.new.self))
-    (ap₂ (λ l r. dependency_reply from (words l) (words r)) c.as-slice-in-Dep.ensures.value c.as-slice-in-Dep-2.ensures.value ∙ sym (ap (λ a. reply from (asked a)) c.in-Dep.is))
+    (ap₂ (λ l r. dependency_reply from (words l) (words r)) c.as_slice-in-Dep.ensures.value c.as_slice-in-Dep-2.ensures.value ∙ sym (ap (λ a. reply from (asked a)) c.in-Dep.is))
     c.dependency.ensures

@@ -32,11 +32,11 @@ pub overflow-add-result-2 : goal.overflow-add-result-2
 overflow-add-result-2 c =
     let b = c.args.self.now.text.now in
     let a = c.args.self.now.at in
-    let more = ap (λ (p : Piece). p.more) c.piece-at-piece.ensures in
+    let more = ap (λ (p : Piece). p.more) c.piece_at-piece.ensures in
     omega (arith, more, first_inside b (a + c.run.result) (omega arith))
 
 pub returns : goal.returns
 returns c =
     let b = c.args.self.now.text.now in
     let a = c.args.self.now.at in
-    first b a c.run.result c.piece-at-piece.result (n_is b a _ c.run.ensures.value) (omega arith) c.piece-at-piece.ensures
+    first b a c.run.result c.piece_at-piece.result (n_is b a _ c.run.ensures.value) (omega arith) c.piece_at-piece.ensures

@@ -10,14 +10,14 @@ use Rattle.sorts.proofs.description.Description.add_column.Goals as goal
 
 pub invariant-of-self : goal.invariant-of-self
 invariant-of-self c =
-    let lt : vec_len c.args.self.now.columns < 8 = column_room (vec_items c.args.self.now.columns) (vec_len c.args.self.now.columns) (offered_column c.args.column) (search rules) (ap (λ C. column_fault (named_columns C) (offered_column c.args.column)) (sym c.deref.ensures.value) ∙ c.in-ok-check-column.ensures.0) in
+    let lt : vec_len c.args.self.now.columns < 8 = column_room (vec_items c.args.self.now.columns) (vec_len c.args.self.now.columns) (offered_column c.args.column) (search rules) (ap (λ C. column_fault (named_columns C) (offered_column c.args.column)) (sym c.deref.ensures.value) ∙ c.in_ok-check_column.ensures.0) in
     (omega (arith, c.push.ensures.len), tt)
 
 pub returns : goal.returns
 returns c = record {
   answers = (
-    then_due _ _ _ c.in-ok-word.ensures.0 (ap (λ C. column_fault (named_columns C) (offered_column c.args.column)) (sym c.deref.ensures.value) ∙ c.in-ok-check-column.ensures.0),
-    ap (λ C. record { columns = C; deps = dependencies (vec_items c.args.self.now.deps); parts = map written_part (vec_items c.args.self.now.parts) }) (column_pushed (vec_items c.args.self.now.columns) (vec_items c.push.new.self) _ (offered_column c.args.column) c.in-ok-push.ensures.items (ap (λ w. record { word = w; kind = kind_of c.args.column.kind }) c.in-ok-word.ensures.1)),
+    then_due _ _ _ c.in_ok-word.ensures.0 (ap (λ C. column_fault (named_columns C) (offered_column c.args.column)) (sym c.deref.ensures.value) ∙ c.in_ok-check_column.ensures.0),
+    ap (λ C. record { columns = C; deps = dependencies (vec_items c.args.self.now.deps); parts = map written_part (vec_items c.args.self.now.parts) }) (column_pushed (vec_items c.args.self.now.columns) (vec_items c.push.new.self) _ (offered_column c.args.column) c.in_ok-push.ensures.items (ap (λ w. record { word = w; kind = kind_of c.args.column.kind }) c.in_ok-word.ensures.1)),
   );
   kept = tt;
 }

@@ -8,9 +8,9 @@ use Rattle.sorts.proofs.description.Description.add_dependency.Goals as goal
 pub returns : goal.returns
 returns c = record {
   answers = (
-    c.in-ok-d.ensures.0,
+    c.in_ok-d.ensures.0,
     ap (λ D. record { columns = named_columns (vec_items c.args.self.now.columns); deps = D; parts = map written_part (vec_items c.args.self.now.parts) })
-        (ap dependencies c.in-ok-push.ensures.items ∙ map-append dependency (vec_items c.args.self.now.deps) (c.in-ok-d.d ∷ []) ∙ ap (λ x. dependencies (vec_items c.args.self.now.deps) ++ x ∷ []) c.in-ok-d.ensures.1),
+        (ap dependencies c.in_ok-push.ensures.items ∙ map-append dependency (vec_items c.args.self.now.deps) (c.in_ok-d.d ∷ []) ∙ ap (λ x. dependencies (vec_items c.args.self.now.deps) ++ x ∷ []) c.in_ok-d.ensures.1),
   );
   kept = tt;
 }

@@ -6,5 +6,5 @@ use Rattle.conditions.proofs.picking.placing.PickAtCondition.admits.Goals as goa
 
 pub returns : goal.returns
 returns c =
-    c.is-among.ensures
-    ∙ ap₂ (λ v l. any (same_value v) (map value l)) (ap value c.cell-at.ensures ∙ value_at (vec_items c.args.row.now.cells) c.args.self.now.place.at _ refl) c.deref.ensures.value
+    c.is_among.ensures
+    ∙ ap₂ (λ v l. any (same_value v) (map value l)) (ap value c.cell_at.ensures ∙ value_at (vec_items c.args.row.now.cells) c.args.self.now.place.at _ refl) c.deref.ensures.value
