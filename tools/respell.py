@@ -97,8 +97,10 @@ def main():
     changed, odd, clash, dots = {}, {}, {}, {}
     for p, t in texts.items():
         shown = code(p, t)
-        foreign, mine = set(), set()
+        foreign, mine, aliases = set(), set(), set()
         for module, names, alias in imports(shown):
+            if alias and is_own(module, own):
+                aliases.add(alias)
             for there, here in names:
                 (mine if is_own(module, own) else foreign).update((there, here))
         inside = p.endswith(".antt") and "/proofs/" in p and "/" in p.split("/proofs/")[1]
@@ -113,7 +115,8 @@ def main():
                 return None
             before = shown[m.start() - 1] if m.start() else " "
             if before == "." and m.start() > 1 and not shown[m.start() - 2].isspace():
-                if name in GARBLED or name in fields:
+                root = re.search(IDENT + r"$", shown[:m.start() - 1])
+                if name in GARBLED or name in fields or root and root.group(0) in aliases:
                     dots.setdefault(name, set()).add(p)
                     return turned(name)
                 return None

@@ -1,9 +1,9 @@
 -- Agreement read place by place.
-use Rattle.std.proofs.Common.{◌≡◌, ℕ, zero, suc, ◌+◌, ◌<◌, ◌≤◌, Bool, true, false, ◌&&◌, ltb, List, [], ◌∷◌, map, length, get_or, take, sym, refl, ap, ◌∙◌, ap₂, ⊎_elim, arith}
+use Rattle.std.proofs.Common.{◌≡◌, ℕ, zero, suc, ◌<◌, ◌≤◌, Bool, true, false, ◌&&◌, ltb, List, [], ◌∷◌, map, length, get_or, take, sym, refl, ap, ◌∙◌, ap₂, ⊎_elim, arith}
 use mathlib.Core.Bool.{false≢true}
 use borrow.Author.Tests.{true-ltb, false-ltb}
 use Rattle.std.proofs.lemmas.Bool.{cases_lt}
-use Rattle.model.specs.Values.{Value, num, Tuple, tail, cell, same_value}
+use Rattle.model.specs.Values.{num, Tuple, tail, cell, same_value}
 use Rattle.model.specs.ColumnSets.{has}
 use Rattle.model.specs.Sorts.{agrees}
 use Rattle.cells.specs.declared.values.Cell.{Cell}

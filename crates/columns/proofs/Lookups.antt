@@ -1,12 +1,12 @@
 -- A column looked for from place to place.
-use Rattle.std.proofs.Common.{◌≡◌, ℕ, zero, suc, ◌+◌, ◌<◌, ◌≤◌, Bool, true, false, cond, List, [], ◌∷◌, map, length, get_or, drop, Some, None, Option, sym, refl, ap, ◌∙◌, arith}
+use Rattle.std.proofs.Common.{◌≡◌, ℕ, suc, ◌+◌, ◌<◌, ◌≤◌, true, false, cond, List, ◌∷◌, length, get_or, drop, Some, None, Option, sym, refl, ap, ◌∙◌, arith}
 use Rattle.std.specs.Option.{option_map}
 use Rattle.std.proofs.lemmas.List.{at_drop_more, at_drop_all}
 use Rattle.model.specs.Values.{same_bytes}
 use Rattle.model.specs.Sorts.{lookup}
 use Rattle.cells.specs.Worded.{letters}
 use Rattle.columns.specs.declared.column.Column.{Column}
-use Rattle.columns.specs.Named.{named_column, named_columns}
+use Rattle.columns.specs.Named.{named_columns}
 
 -- a place i further on
 abbrev pub further : ℕ → Option ℕ → Option ℕ

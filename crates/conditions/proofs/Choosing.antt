@@ -1,5 +1,5 @@
 -- Loops over the cells of a pick.
-use Rattle.std.proofs.Common.{◌≡◌, ℕ, zero, suc, ◌+◌, ◌<◌, ◌≤◌, Bool, true, false, ◌&&◌, ◌||◌, leb, List, [], ◌∷◌, map, length, get_or, drop, Some, Ordering, Less, Equal, Greater, sym, refl, ap, ◌∙◌, subst, ap₂, arith}
+use Rattle.std.proofs.Common.{◌≡◌, ℕ, zero, suc, ◌<◌, ◌≤◌, Bool, true, false, ◌&&◌, leb, List, [], ◌∷◌, map, length, get_or, drop, Some, Ordering, Less, Equal, Greater, sym, refl, ap, ◌∙◌, subst, ap₂, arith}
 use mathlib.Core.Bool.{false≢true}
 use Rattle.std.proofs.lemmas.List.{length-map}
 use Rattle.model.specs.Decisions.{is_below}
@@ -7,7 +7,7 @@ use Rattle.std.specs.Ordering.{is_lt}
 use Rattle.cells.specs.Held.{ordering}
 use Rattle.model.specs.Orders.{Order, by_bytes}
 use Rattle.model.specs.Sorts.{Kind, of_kind}
-use Rattle.model.specs.Values.{Value, any, every}
+use Rattle.model.specs.Values.{Value, every}
 use Rattle.std.proofs.lemmas.Bool.{and_from, le-leb, lt-leb}
 use Rattle.conditions.specs.Picks.{first_kind, is_few, of_first_kind, kind_of_value, rising, is_choice}
 

@@ -1,6 +1,6 @@
 -- The parts of a condition admit what it admits, and how they are gathered.
 use Rattle.std.proofs.Common.{◌≡◌, Bool, true, false, ◌&&◌, List, [], ◌∷◌, ◌++◌, map, Box, sym, refl, ap, ◌∙◌, ap₂, append_assoc}
-use Rattle.model.specs.Conditions.{Condition, compared, negated, bracket, both, either, admits_row, part_of, parts_of}
+use Rattle.model.specs.Conditions.{Condition, compared, negated, bracket, both, either, admits_row, parts_of}
 use Rattle.model.specs.Orders.{Order, by_bytes}
 use Rattle.model.specs.Sorts.{Part, admitted}
 use Rattle.model.specs.Values.{Tuple}

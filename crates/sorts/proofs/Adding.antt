@@ -1,13 +1,12 @@
 -- Which fault a column more is refused with.
-use Rattle.std.proofs.Common.{◌≡◌, ℕ, ◌+◌, ◌<◌, ◌≤◌, Bool, true, false, cond, ltb, List, [], ◌∷◌, ◌++◌, map, length, is_some, Some, None, Option, sym, refl, ap, ◌∙◌, ap₂, ⊎_elim, arith, le-ltb, lt-ltb}
+use Rattle.std.proofs.Common.{◌≡◌, ℕ, ◌<◌, ◌≤◌, true, false, cond, ltb, List, [], ◌∷◌, ◌++◌, length, is_some, Some, None, Option, sym, ap, ◌∙◌, ap₂, ⊎_elim, arith, le-ltb, lt-ltb}
 use Rattle.std.proofs.lemmas.List.{length-map, map-append}
 use Rattle.std.proofs.lemmas.Bool.{cases_lt}
 use Rattle.model.specs.Sorts as sorts
 use Rattle.model.specs.Faults.{Fault, fault, or_then}
-use Rattle.cells.specs.Worded.{name_fault}
 use Rattle.columns.specs.declared.column.Column.{Column}
 use Rattle.columns.specs.Named.{named_column, named_columns}
-use Rattle.sorts.specs.Describing.{column_fault, later_column_fault}
+use Rattle.sorts.specs.Describing.{column_fault}
 
 pub column_limit : (C : List Column) (n : ℕ) (c : sorts.Column) → n ≡ length C → 8 ≤ n → column_fault (named_columns C) c ≡ fault 4 0 0
 column_limit C n c e h =

@@ -1,5 +1,5 @@
 -- How many parts there are with those of a condition.
-use Rattle.std.proofs.Common.{◌≡◌, ℕ, ◌+◌, ◌<◌, ◌≤◌, cond, leb, List, ◌++◌, map, length, None, sym, refl, ap, ◌∙◌, ap₂, le-leb}
+use Rattle.std.proofs.Common.{◌≡◌, ℕ, ◌+◌, ◌<◌, ◌≤◌, cond, leb, List, ◌++◌, map, length, None, sym, ap, ◌∙◌, ap₂, le-leb}
 use borrow.Author.Tests.{lt-leb}
 use Rattle.std.proofs.lemmas.List.{length-map, length-append, map-append}
 use Rattle.model.specs.Faults.{fault}

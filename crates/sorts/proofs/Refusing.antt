@@ -16,8 +16,8 @@ passes due due' (refusal.Fault f) h a = h (told f) a
 passes due due' refusal.Memory h a = tt
 
 -- the first of two faults, and the second where there is no first
-pub due_first : (g h : Option faults.Fault) (f : faults.Fault) → g ≡ Some f → faults.or-then g h ≡ Some f
-due_first g h f e = ap (λ x. faults.or-then x h) e
+pub due_first : (g h : Option faults.Fault) (f : faults.Fault) → g ≡ Some f → faults.or_then g h ≡ Some f
+due_first g h f e = ap (λ x. faults.or_then x h) e
 
-pub due_second : (g h k : Option faults.Fault) → g ≡ None → h ≡ k → faults.or-then g h ≡ k
-due_second g h k e d = ap (λ x. faults.or-then x h) e ∙ d
+pub due_second : (g h k : Option faults.Fault) → g ≡ None → h ≡ k → faults.or_then g h ≡ k
+due_second g h k e d = ap (λ x. faults.or_then x h) e ∙ d

@@ -1,12 +1,12 @@
 -- Columns that are described one after the other.
-use Rattle.std.proofs.Common.{◌≡◌, ℕ, ◌+◌, ◌<◌, ◌≤◌, Bool, true, false, cond, ◌||◌, eqb, ltb, List, [], ◌∷◌, ◌++◌, map, length, get_or, take, drop, Some, None, Option, sym, refl, ap, ◌∙◌, subst, ap₂, arith, le-ltb, lt-ltb, true-eqb, false-eqb}
+use Rattle.std.proofs.Common.{◌≡◌, ℕ, ◌+◌, ◌<◌, ◌≤◌, Bool, true, false, cond, ◌||◌, eqb, ltb, List, [], ◌∷◌, ◌++◌, map, length, get_or, take, drop, Some, None, Option, sym, refl, ap, ◌∙◌, ap₂, arith, le-ltb, lt-ltb, true-eqb, false-eqb}
 use Rattle.std.proofs.lemmas.List.{at_drop_more, at_drop_all, map_more, take_all, length-map}
 use Rattle.model.specs.Faults.{Fault, fault, or_then}
 use Rattle.model.specs.Values.{any, same_bytes}
 use Rattle.model.specs.Sorts.{Column, Sort}
 use Rattle.cells.specs.Worded.{name_fault}
 use Rattle.sorts.specs.declared.offered.NewColumn.{NewColumn}
-use Rattle.sorts.specs.Describing.{words_fault, column_words, column_fault, columns_fault, later_column_fault, no_columns_fault, all_columns_fault, name_used_fault, of_columns, with_column}
+use Rattle.sorts.specs.Describing.{words_fault, column_words, column_fault, columns_fault, later_column_fault, all_columns_fault, name_used_fault, of_columns, with_column}
 use Rattle.sorts.specs.Offered.{offered_column, offered_columns}
 
 some_none : (f : Fault) → Some f ≡ None → ⊥

@@ -1,5 +1,5 @@
 -- Loops over offered words that compute a conjunction or a disjunction.
-use Rattle.std.proofs.Common.{◌≡◌, ℕ, ◌+◌, ◌-◌, ◌<◌, ◌≤◌, Bool, true, false, ◌&&◌, ◌||◌, List, [], ◌∷◌, length, get_or, take, drop, sym, refl, ap, ◌∙◌, subst, Bor}
+use Rattle.std.proofs.Common.{◌≡◌, ℕ, ◌+◌, ◌-◌, ◌<◌, ◌≤◌, Bool, true, false, ◌&&◌, ◌||◌, List, [], ◌∷◌, length, get_or, take, drop, sym, ap, ◌∙◌, subst, Bor}
 use Rattle.std.proofs.lemmas.List.{length-map, get_or-map, drop-map, take_rest, at_drop_more, at_drop_all}
 use Rattle.columns.proofs.Folds.{and_stop, and_go, and_end, or_stop, or_go, or_end}
 use Rattle.sorts.specs.Offered.{words}

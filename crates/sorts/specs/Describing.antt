@@ -1,5 +1,5 @@
 -- What may be said when a table is described, and the fault of what may not. A fault of describing has kind 0 and place 0.
-use Rattle.std.specs.Prelude.{ℕ, Bool, true, false, cond, not, ◌&&◌, List, [], ◌∷◌, ◌++◌, map, length, set, replicate, is_some, Some, None, Option, nat_le, nat_lt, slice_set}
+use Rattle.std.specs.Prelude.{ℕ, Bool, true, false, cond, not, ◌&&◌, List, [], ◌∷◌, ◌++◌, map, length, replicate, is_some, Some, None, Option, nat_le, nat_lt, slice_set}
 use Rattle.model.specs.Values.{any, every, same_bytes}
 use Rattle.model.specs.ColumnSets.{ColumnSet, same}
 use Rattle.model.specs.Sorts.{Column, lookup, Dependency, Part, Sort}

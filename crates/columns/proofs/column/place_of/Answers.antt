@@ -1,4 +1,4 @@
-use Rattle.std.proofs.Common.{sym, rules}
+use Rattle.std.proofs.Common.{sym}
 use Rattle.columns.proofs.Lookups.{found_at, not_at, nowhere}
 use Rattle.columns.proofs.column.place_of.Goals as goal
 

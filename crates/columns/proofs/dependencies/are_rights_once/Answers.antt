@@ -1,5 +1,5 @@
-use Rattle.std.proofs.Common.{◌≡◌, ◌+◌, Bool, not, List, drop, sym, refl, ap, ◌∙◌}
-use Rattle.std.proofs.lemmas.List.{take_rest, drop_more}
+use Rattle.std.proofs.Common.{◌+◌, Bool, not, List, sym, refl, ap, ◌∙◌}
+use Rattle.std.proofs.lemmas.List.{take_rest}
 use Rattle.model.specs.Values.{any}
 use Rattle.model.specs.ColumnSets.{same}
 use Rattle.model.specs.TreeForm.{right_once}

@@ -1,4 +1,4 @@
-use Rattle.std.proofs.Common.{◌≡◌, ◌++◌, vec_items, vec_len, sym, ap, ◌∙◌, subst, arith, rules}
+use Rattle.std.proofs.Common.{◌++◌, vec_items, vec_len, ap, ◌∙◌, subst, rules}
 use Rattle.columns.specs.Members.{Leader, dependencies}
 use Rattle.columns.proofs.Trees.{arrange_more, arrange_all, arrange_none}
 use Rattle.model.specs.TreeForm.{arrange, in_order}

@@ -1,4 +1,4 @@
-use Rattle.std.proofs.Common.{◌≡◌, ◌+◌, Bool, List, ◌∷◌, drop, sym, refl, ap, ◌∙◌}
+use Rattle.std.proofs.Common.{◌+◌, Bool, List, ◌∷◌, drop, sym, refl, ap, ◌∙◌}
 use Rattle.std.proofs.lemmas.List.{take_rest, drop_more}
 use Rattle.model.specs.TreeForm.{leads_off, arranged}
 use Rattle.columns.specs.declared.dependencies.Dependency.{Dependency}

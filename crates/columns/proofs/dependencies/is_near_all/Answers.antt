@@ -1,4 +1,4 @@
-use Rattle.std.proofs.Common.{◌≡◌, Bool, ◌&&◌, List, ◌∷◌, sym, refl, ap, ◌∙◌}
+use Rattle.std.proofs.Common.{◌≡◌, Bool, ◌&&◌, List, ◌∷◌, sym, refl}
 use Rattle.model.specs.Values.{every}
 use Rattle.model.specs.TreeForm.{sets}
 use Rattle.columns.specs.declared.set.ColumnSet.{ColumnSet}

@@ -1,4 +1,4 @@
-use Rattle.std.proofs.Common.{◌≡◌, Bool, not, ◌&&◌, List, ◌∷◌, sym, refl, ap, ◌∙◌}
+use Rattle.std.proofs.Common.{◌≡◌, Bool, not, ◌&&◌, List, ◌∷◌, sym, refl, ap}
 use Rattle.model.specs.Values.{any}
 use Rattle.model.specs.ColumnSets as sets
 use Rattle.columns.specs.declared.set.ColumnSet.{ColumnSet}

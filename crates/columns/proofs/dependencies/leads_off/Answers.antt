@@ -1,4 +1,4 @@
-use Rattle.std.proofs.Common.{◌≡◌, Bool, not, List, sym, refl, ap, ◌∙◌}
+use Rattle.std.proofs.Common.{Bool, not, List, sym, refl, ap}
 use Rattle.model.specs.ColumnSets.{same}
 use Rattle.model.specs.TreeForm.{leads_off}
 use Rattle.columns.specs.declared.dependencies.Dependency.{Dependency}

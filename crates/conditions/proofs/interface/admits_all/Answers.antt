@@ -1,4 +1,4 @@
-use Rattle.std.proofs.Common.{◌≡◌, sym, ap, ◌∙◌}
+use Rattle.std.proofs.Common.{sym, ap, ◌∙◌}
 use Rattle.cells.specs.Held.{tuple}
 use Rattle.cells.proofs.Walks.{every_more, every_fails, every_all}
 use Rattle.conditions.proofs.Parts.{admitted_every}

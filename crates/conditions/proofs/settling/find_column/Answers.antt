@@ -1,4 +1,4 @@
-use Rattle.std.proofs.Common.{◌≡◌, ◌<◌, Some, ap, ◌∙◌, arith}
+use Rattle.std.proofs.Common.{◌<◌, Some, ap, ◌∙◌, arith}
 use Rattle.conditions.proofs.Lookups.{found_within, some_place, some_kind}
 use Rattle.conditions.proofs.settling.find_column.Goals as goal
 

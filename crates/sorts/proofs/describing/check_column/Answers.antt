@@ -1,4 +1,4 @@
-use Rattle.std.proofs.Common.{is_some, sym, refl, ap, rules}
+use Rattle.std.proofs.Common.{is_some, sym, refl, ap}
 use Rattle.sorts.specs.Offered.{offered_column}
 use Rattle.sorts.proofs.Adding.{column_limit, column_repeat, column_fits}
 use Rattle.sorts.proofs.Refusing.{refuses}

@@ -1,4 +1,4 @@
-use Rattle.std.proofs.Common.{◌≡◌, cond, not, ◌&&◌, [], ◌∷◌, ◌++◌, None, vec_items, sym, refl, ap, ◌∙◌, ap₂}
+use Rattle.std.proofs.Common.{◌≡◌, cond, not, ◌&&◌, [], ◌∷◌, ◌++◌, None, vec_items, sym, ap, ◌∙◌, ap₂}
 use Rattle.std.proofs.lemmas.List.{map-append}
 use Rattle.model.specs.Faults.{fault}
 use Rattle.model.specs.TreeForm.{tree_form}

@@ -1,4 +1,4 @@
-use Rattle.std.proofs.Common.{◌≡◌, ℕ, Bool, cond, List, is_some, None, sym, refl, ap, ◌∙◌}
+use Rattle.std.proofs.Common.{ℕ, Bool, cond, List, is_some, None, sym, refl, ap}
 use Rattle.model.specs.Faults.{fault}
 use Rattle.model.specs.Values.{every}
 use Rattle.model.specs.Sorts.{lookup, Column}

@@ -1,4 +1,4 @@
-use Rattle.std.proofs.Common.{◌≡◌, ℕ, ◌+◌, Bool, cond, not, List, None, sym, refl, ap, ◌∙◌}
+use Rattle.std.proofs.Common.{ℕ, ◌+◌, Bool, cond, not, List, None, sym, refl, ap, ◌∙◌}
 use Rattle.model.specs.Faults.{fault}
 use Rattle.model.specs.Values.{any, same_bytes}
 use Rattle.sorts.specs.Describing.{once}

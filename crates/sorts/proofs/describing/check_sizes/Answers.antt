@@ -1,4 +1,4 @@
-use Rattle.std.proofs.Common.{sym, ◌∙◌, rules}
+use Rattle.std.proofs.Common.{sym, ◌∙◌}
 use Rattle.sorts.proofs.Refusing.{refuses}
 use Rattle.sorts.proofs.Sizing.{no_left, no_right, no_place, sizes_fit}
 use Rattle.sorts.proofs.describing.check_sizes.Goals.{then-is_empty-via-then-is_empty, then-is_empty-via-else-is_empty+then-is_empty-2, then-is_empty-via-else-is_empty+else-is_empty-2+then-deps-ge8}

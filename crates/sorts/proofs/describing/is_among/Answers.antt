@@ -1,4 +1,4 @@
-use Rattle.std.proofs.Common.{◌≡◌, ℕ, Bool, List, sym, refl, ap, ◌∙◌}
+use Rattle.std.proofs.Common.{ℕ, Bool, List, sym, refl, ◌∙◌}
 use Rattle.model.specs.Values.{any, same_bytes}
 use Rattle.cells.proofs.Sames.{matches_bytes}
 use Rattle.sorts.proofs.Wording.{some_stop, some_go, some_end}

@@ -1,4 +1,4 @@
-use Rattle.std.proofs.Common.{◌≡◌, Bool, List, sym, refl, ap, ◌∙◌}
+use Rattle.std.proofs.Common.{Bool, List, sym, refl}
 use Rattle.model.specs.Values.{any}
 use Rattle.columns.specs.declared.dependencies.Dependency.{Dependency}
 use Rattle.columns.specs.Members.{dependency, dependencies}

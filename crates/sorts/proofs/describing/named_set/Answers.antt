@@ -1,5 +1,4 @@
-use Rattle.std.proofs.Common.{◌≡◌, ◌+◌, ◌-◌, true, drop, set, sym, refl, ap, ◌∙◌, arith}
-use Rattle.columns.specs.Members.{members}
+use Rattle.std.proofs.Common.{◌≡◌, ◌+◌, ◌-◌, true, drop, set, sym, ap, ◌∙◌, arith}
 use Rattle.columns.specs.Named.{named_columns}
 use Rattle.sorts.specs.Describing.{named_set, with_place}
 use Rattle.sorts.specs.Offered.{words}

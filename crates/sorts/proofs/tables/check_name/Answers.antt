@@ -1,4 +1,4 @@
-use Rattle.std.proofs.Common.{◌≡◌, true, false, length, sym, refl, ap, ◌∙◌}
+use Rattle.std.proofs.Common.{true, false, sym, ap, ◌∙◌}
 use Rattle.model.specs.Values.{any}
 use Rattle.cells.proofs.Walks.{any_more, any_found, any_none}
 use Rattle.sorts.proofs.Refusing.{refuses}

@@ -1,4 +1,4 @@
-use Rattle.std.proofs.Common.{◌≡◌, map, drop}
+use Rattle.std.proofs.Common.{◌≡◌, drop}
 use Rattle.model.specs.Values.{any, same_bytes}
 use Rattle.sorts.proofs.tables.check_name.Given as goal
 

@@ -1,4 +1,4 @@
-use Rattle.std.proofs.Common.{◌≡◌, ◌+◌, cond, List, drop, None, Option, sym, refl, ap, ◌∙◌}
+use Rattle.std.proofs.Common.{◌+◌, cond, List, drop, None, Option, sym, ap, ◌∙◌}
 use Rattle.std.proofs.lemmas.List.{at_drop_more, at_drop_all}
 use Rattle.model.specs.Faults.{Fault, fault, or_then}
 use Rattle.sorts.specs.declared.offered.NewColumn.{NewColumn}

@@ -1,4 +1,4 @@
-use Rattle.std.proofs.Common.{◌≡◌, sym, rules}
+use Rattle.std.proofs.Common.{sym, rules}
 use Rattle.cells.specs.Held.{tuple}
 use Rattle.columns.proofs.Alike.{agrees_below, differs_below}
 use Rattle.columns.proofs.set.ColumnSet.agrees.Goals as goal

@@ -1,4 +1,4 @@
-use Rattle.std.proofs.Common.{◌≡◌, sym, ◌∙◌, arith, rules}
+use Rattle.std.proofs.Common.{rules}
 use Rattle.columns.proofs.Places.{has_get_d, has_past}
 use Rattle.columns.proofs.set.ColumnSet.has.Goals as goal
 

@@ -1,4 +1,4 @@
-use Rattle.std.proofs.Common.{◌≡◌, sym, ◌∙◌, arith, rules}
+use Rattle.std.proofs.Common.{sym, ◌∙◌, rules}
 use Rattle.columns.proofs.Places.{has_get_d, non_empty_at, empty_below}
 use Rattle.columns.proofs.set.ColumnSet.has_some.Goals as goal
 

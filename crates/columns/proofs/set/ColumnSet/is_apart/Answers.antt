@@ -1,4 +1,4 @@
-use Rattle.std.proofs.Common.{◌≡◌, sym, ◌∙◌, arith, rules}
+use Rattle.std.proofs.Common.{sym, ◌∙◌, rules}
 use Rattle.columns.proofs.Places.{has_get_d, apart_below, meet_at}
 use Rattle.columns.proofs.set.ColumnSet.is_apart.Goals as goal
 

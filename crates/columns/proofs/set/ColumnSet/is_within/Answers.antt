@@ -1,4 +1,4 @@
-use Rattle.std.proofs.Common.{◌≡◌, sym, ◌∙◌, arith, rules}
+use Rattle.std.proofs.Common.{sym, ◌∙◌, rules}
 use Rattle.columns.proofs.Places.{has_get_d, within_below, outside_at}
 use Rattle.columns.proofs.set.ColumnSet.is_within.Goals as goal
 

@@ -1,4 +1,4 @@
-use Rattle.std.proofs.Common.{◌≡◌, sym, ◌∙◌, rules}
+use Rattle.std.proofs.Common.{sym, ◌∙◌, rules}
 use Rattle.std.proofs.lemmas.List.{set_past}
 use Rattle.columns.proofs.set.ColumnSet.with.Goals.{then-place-lt8, else-place-lt8}
 use Rattle.columns.proofs.set.ColumnSet.with.Goals as goal

@@ -1,4 +1,4 @@
-use Rattle.std.proofs.Common.{◌<◌, Some, vec_items, sym, ap, ◌∙◌, subst, arith}
+use Rattle.std.proofs.Common.{Some, vec_items, sym, ap, ◌∙◌, arith}
 use Rattle.cells.specs.Held.{value}
 use Rattle.conditions.proofs.Choosing.{choice_some, first_at}
 use Rattle.conditions.proofs.picking.Pick.kind.Goals as goal

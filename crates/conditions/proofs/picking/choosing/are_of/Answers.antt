@@ -1,4 +1,4 @@
-use Rattle.std.proofs.Common.{◌≡◌, sym, ap, ◌∙◌, rules}
+use Rattle.std.proofs.Common.{◌∙◌, rules}
 use Rattle.model.specs.Sorts.{of_kind}
 use Rattle.cells.specs.Held.{kind_of, value}
 use Rattle.cells.proofs.Walks.{every_more, every_fails, every_all}

@@ -2,7 +2,6 @@ use Rattle.std.proofs.Common.{◌≡◌, drop}
 use Rattle.model.specs.Sorts.{of_kind}
 use Rattle.model.specs.Values.{every}
 use Rattle.cells.specs.Held.{kind_of, value}
-use Rattle.conditions.specs.Picks.{is_cell}
 use Rattle.conditions.proofs.picking.choosing.are_of.Given as goal
 
 abbrev pub invariant-loop-cell : goal.invariant-loop-cell

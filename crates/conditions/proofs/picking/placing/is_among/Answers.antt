@@ -1,4 +1,4 @@
-use Rattle.std.proofs.Common.{◌≡◌, sym, ap, ◌∙◌}
+use Rattle.std.proofs.Common.{sym, ap, ◌∙◌}
 use Rattle.model.specs.Values.{same_value}
 use Rattle.cells.specs.Held.{value}
 use Rattle.cells.proofs.Walks.{any_more, any_found, any_none}

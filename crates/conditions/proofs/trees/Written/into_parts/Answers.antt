@@ -1,4 +1,4 @@
-use Rattle.std.proofs.Common.{◌≡◌, ◌++◌, map, ap, ◌∙◌}
+use Rattle.std.proofs.Common.{◌++◌, map, ap, ◌∙◌}
 use Rattle.model.specs.Orders.{by_bytes}
 use Rattle.model.specs.Sorts.{admitted}
 use Rattle.conditions.specs.Meaning.{meaning, written_part}

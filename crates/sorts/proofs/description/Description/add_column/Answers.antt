@@ -1,17 +1,12 @@
-use Rattle.std.proofs.Common.{◌≡◌, ◌<◌, [], ◌∷◌, ◌++◌, map, length, None, vec_items, vec_len, sym, refl, ap, ◌∙◌, arith, rules}
+use Rattle.std.proofs.Common.{map, vec_items, sym, ap, ◌∙◌}
 use Rattle.cells.specs.Held.{kind_of}
 use Rattle.columns.specs.Members.{dependencies}
 use Rattle.columns.specs.Named.{named_columns}
 use Rattle.conditions.specs.Meaning.{written_part}
 use Rattle.sorts.specs.Describing.{column_fault}
 use Rattle.sorts.specs.Offered.{offered_column}
-use Rattle.sorts.proofs.Adding.{column_room, column_pushed, then_due}
+use Rattle.sorts.proofs.Adding.{column_pushed, then_due}
 use Rattle.sorts.proofs.description.Description.add_column.Goals as goal
-
-pub invariant-of-self : goal.invariant-of-self
-invariant-of-self c =
-    let lt : vec_len c.args.self.now.columns < 8 = column_room (vec_items c.args.self.now.columns) (vec_len c.args.self.now.columns) (offered_column c.args.column) (search rules) (ap (λ C. column_fault (named_columns C) (offered_column c.args.column)) (sym c.deref.ensures.value) ∙ c.in_ok-check_column.ensures.0) in
-    (omega (arith, c.push.ensures.len), tt)
 
 pub returns : goal.returns
 returns c = record {

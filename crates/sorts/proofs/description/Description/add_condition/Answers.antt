@@ -1,4 +1,4 @@
-use Rattle.std.proofs.Common.{◌≡◌, vec_items, vec_len, sym, ap, ◌∙◌, arith, rules}
+use Rattle.std.proofs.Common.{vec_items, vec_len, ap, rules}
 use Rattle.model.specs.Conditions.{parts_of}
 use Rattle.model.specs.Orders.{by_bytes}
 use Rattle.columns.specs.Members.{dependencies}

@@ -1,9 +1,9 @@
-use Rattle.std.proofs.Common.{◌≡◌, ℕ, List, ◌++◌, map, Some, None, vec_items, sym, refl, ap, ◌∙◌, subst, ap₂, Bor}
+use Rattle.std.proofs.Common.{◌≡◌, ℕ, List, ◌++◌, vec_items, sym, ap, ◌∙◌, ap₂, Bor}
 use Rattle.std.proofs.lemmas.List.{map-append}
 use Rattle.std.proofs.lemmas.Result.{err_from_is_err_and}
 use Rattle.columns.specs.Members.{dependencies}
 use Rattle.columns.specs.Named.{named_columns}
-use Rattle.sorts.specs.Describing.{unknown_fault, twice_fault, sizes_fault, form_fault, named_dependency, named_set}
+use Rattle.sorts.specs.Describing.{unknown_fault, twice_fault, sizes_fault, form_fault, named_set}
 use Rattle.sorts.specs.Offered.{words}
 use Rattle.sorts.proofs.Refusing.{passes, due_first, due_second}
 use Rattle.sorts.proofs.description.Description.dependency.Goals as goal
