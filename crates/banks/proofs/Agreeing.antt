@@ -1,14 +1,11 @@
 -- The rows that break a dependency. Assumes nothing.
-use Rattle.std.proofs.Common.{◌≡◌, ℕ, zero, suc, ◌+◌, ◌-◌, ◌<◌, ◌≤◌, Bool, true, false, cond, not, ◌&&◌, ◌||◌, List, [], ◌∷◌, ◌++◌, map, length, get_or, take, drop, Some, None, Option, sym, refl, ap, ◌∙◌, subst, ap₂, add-one, arith}
-use lib.ListN.{length-map}
+use Rattle.std.proofs.Common.{◌≡◌, ℕ, suc, ◌+◌, ◌<◌, ◌≤◌, Bool, true, false, cond, not, ◌&&◌, ◌||◌, List, [], ◌∷◌, ◌++◌, map, length, get_or, take, drop, None, Option, sym, refl, ap, ◌∙◌, ap₂, add-one}
 use Rattle.std.proofs.lemmas.List.{take_more, drop_more, drop_all, map_push}
-use Rattle.model.specs.Values.{Value, num, Tuple, Relation, any, tail, cell, same_value}
-use Rattle.model.specs.ColumnSets.{ColumnSet, has}
+use Rattle.model.specs.Values.{Tuple, Relation, any}
 use Rattle.model.specs.Sorts.{agrees, Dependency}
 use Rattle.model.specs.Faults.{Fault, fault}
 use Rattle.model.specs.Judging.{breaks, dep_fault}
-use Rattle.cells.specs.Held.{value, tuple, tuples}
-use Rattle.cells.specs.declared.values.Cell.{Cell}
+use Rattle.cells.specs.Held.{tuple, tuples}
 use Rattle.cells.specs.declared.rows.Row.{Row}
 use Rattle.columns.specs.Members.{dependency, dependencies, members}
 use Rattle.sorts.specs.Sealed.{narrowed}

@@ -1,15 +1,15 @@
 -- The turns of the loops that write. Assumes nothing.
-use Rattle.std.proofs.Common.{◌≡◌, ℕ, zero, suc, ◌+◌, ◌<◌, ◌≤◌, List, [], ◌∷◌, ◌++◌, map, length, get_or, take, sym, refl, ap, ◌∙◌, subst, append_assoc, append-nil, arith}
+use Rattle.std.proofs.Common.{◌≡◌, ℕ, zero, suc, ◌+◌, ◌<◌, ◌≤◌, List, [], ◌∷◌, ◌++◌, map, length, get_or, take, sym, refl, ap, ◌∙◌, subst, append_assoc, arith}
 use Rattle.std.specs.List.{flat_map}
 use Rattle.std.proofs.lemmas.List.{take_more, map_push, flat_map_more, take_all}
-use Rattle.model.specs.Values.{Value, Tuple, Relation}
+use Rattle.model.specs.Values.{Tuple, Relation}
 use Rattle.model.specs.Banks.{coded_cell, coded_row, coded_rows, kind_byte}
 use Rattle.cells.specs.Held.{kind_of, value, tuple}
 use Rattle.cells.specs.declared.values.Cell.{Cell}
 use Rattle.cells.specs.declared.rows.Row.{Row}
 use Rattle.columns.specs.declared.column.Column.{Column}
 use Rattle.columns.specs.Named.{named_column}
-use Rattle.banks.specs.Codable.{Codable, All}
+use Rattle.banks.specs.Codable.{All}
 use Rattle.banks.specs.Fields.{kind_bytes}
 
 pub all_at : {A B : Type 0} (P : B → Type 0) (g : A → B) (xs : List A) (i : ℕ) (x : A) → All P (map g xs) → i < length xs → x ≡ get_or xs i x → P (g x)

@@ -1,5 +1,5 @@
 -- What slice patterns bind at the front of bytes. Assumes nothing.
-use Rattle.std.proofs.Common.{◌≡◌, ℕ, ◌-◌, ◌<◌, ◌≤◌, List, [], ◌∷◌, length, get_or, take, drop, Some, Option, ap, ◌∙◌, arith, take_all}
+use Rattle.std.proofs.Common.{◌≡◌, ℕ, ◌-◌, ◌<◌, ◌≤◌, List, [], ◌∷◌, length, get_or, take, drop, Some, Option, ◌∙◌, arith, take_all}
 use Rattle.model.specs.Banks.{find_number}
 use Rattle.coding.proofs.Groups.{of_two, of_three, of_four, find_one, find_two, find_three, find_four}
 

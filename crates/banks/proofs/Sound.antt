@@ -1,10 +1,10 @@
 -- Rows that are stored meet their sort, and can be written. Assumes nothing.
-use Rattle.std.proofs.Common.{◌≡◌, ℕ, ◌<◌, ◌≤◌, true, ◌&&◌, leb, List, [], ◌∷◌, length, sym, refl, ap, ◌∙◌, inl, inr, arith}
+use Rattle.std.proofs.Common.{◌≡◌, ℕ, ◌≤◌, true, ◌&&◌, leb, List, [], ◌∷◌, length, refl, inl, inr, arith}
 use mathlib.Core.Bool.{false≢true}
 use Rattle.std.proofs.lemmas.Bool.{and_parts, leb-true}
 use Rattle.model.specs.Values.{Value, num, text, Tuple, Relation, ◌∈◌, every}
 use Rattle.model.specs.Orders.{by_bytes}
-use Rattle.model.specs.Sorts.{Kind, numbers, texts, is_text, is_text_byte, of_kind, Column, Shaped, Sort, greatest, Meets}
+use Rattle.model.specs.Sorts.{Kind, numbers, texts, is_text_byte, of_kind, Column, Shaped, Sort, greatest}
 use Rattle.model.specs.Decisions.{meets}
 use Rattle.model.specs.Banks.{accepted, read_bank}
 use Rattle.laws.proofs.Meeting.{meets_test}

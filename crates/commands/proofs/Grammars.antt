@@ -1,10 +1,8 @@
 -- The reader's tokens are those of the grammar.
-use Rattle.std.proofs.Common.{◌≡◌, ℕ, Bool, true, false, cond, not, ◌&&◌, eqb, leb, List, [], ◌∷◌, ◌++◌, Some, None, Option, sym, refl, ap, ◌∙◌, subst, append_assoc, append-nil, arith}
-use Rattle.std.specs.Option.{option_map}
-use Rattle.std.proofs.lemmas.Bool.{cond-true, cond-false, true≢false, false≢true, and_from, and_parts, eqb-true, eq-eqb, not_from_true, not-true, both_ways}
+use Rattle.std.proofs.Common.{◌≡◌, ℕ, Bool, true, false, not, List, [], ◌∷◌, ◌++◌, Some, None, Option, sym, refl, ap, ◌∙◌, subst, append_assoc, append-nil, arith}
+use Rattle.std.proofs.lemmas.Bool.{cond-true, cond-false, and_from, and_parts, eqb-true, not-true}
 use Rattle.std.proofs.lemmas.Bool.Decides.{nat_tests}
 use Rattle.model.specs.Values.{every}
-use Rattle.commands.specs.Lists.{front, behind}
 use Rattle.commands.specs.Lines.{Lexeme, plain, quoted, is_space, is_quote, is_sign, bounded, Reader, between, in_plain, in_quotes, closed, lead, read, tokens_of}
 use Rattle.commands.specs.Grammar.{spelt, Proper, Reads, end, space, token, Exact}
 

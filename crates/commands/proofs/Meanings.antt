@@ -1,12 +1,12 @@
 -- What a line means, step by step.
-use Rattle.std.proofs.Common.{◌≡◌, ℕ, ◌+◌, ◌<◌, ◌≤◌, Bool, true, false, cond, not, ◌||◌, List, [], ◌∷◌, length, get_or, take, drop, Some, None, Option, sym, refl, ap, ◌∙◌, arith, Bor}
+use Rattle.std.proofs.Common.{◌≡◌, ℕ, ◌+◌, ◌<◌, ◌≤◌, Bool, true, false, cond, not, List, [], ◌∷◌, length, get_or, take, drop, Some, None, Option, sym, refl, ap, ◌∙◌, arith, Bor}
 use Rattle.std.proofs.lemmas.List.{drop_more, drop_all, take-map, drop-map}
-use Rattle.std.proofs.lemmas.Bool.{cond-true, cond-false, or_from, or_left, or_right, true≢false, not-false, not-true}
+use Rattle.std.proofs.lemmas.Bool.{cond-true, cond-false, or_from, or_left, or_right}
 use Rattle.model.specs.Values.{any, every, same_bytes}
 use Rattle.commands.specs.declared.parsing.Verb.{Verb}
 use Rattle.commands.specs.Lists.{front, behind, and_then}
 use Rattle.commands.specs.Lines.{is_comment, is_space, is_skipped, command_word, arguments_of, words_of}
-use Rattle.commands.specs.Forms.{Word, Asked, spelling, verb_among, verb_of, says, command_of, Meaning, bad, asks, skipped, or_bad, meaning, is_arrow, no_arrow, dep, dep_parts, dep_said}
+use Rattle.commands.specs.Forms.{Word, Asked, spelling, verb_among, verb_of, says, command_of, skipped, or_bad, meaning, is_arrow, no_arrow, dep, dep_parts, dep_said}
 use Rattle.commands.specs.Lines.{texts}
 use Rattle.commands.proofs.Cuts.{cut_front}
 use Rattle.commands.proofs.Shapes.{rest, none_is, one_more_is}

@@ -1,15 +1,15 @@
 -- How a reader goes over runs of bytes.
-use Rattle.std.proofs.Common.{◌≡◌, ℕ, suc, ◌<◌, ◌≤◌, Bool, true, false, cond, not, ◌&&◌, eqb, leb, List, [], ◌∷◌, ◌++◌, length, get_or, Some, None, Option, sym, refl, ap, ◌∙◌, subst, append_assoc, append-nil, arith, Bor}
+use Rattle.std.proofs.Common.{◌≡◌, ℕ, suc, ◌<◌, ◌≤◌, Bool, true, false, cond, not, ◌&&◌, List, [], ◌∷◌, ◌++◌, length, get_or, Some, None, Option, sym, refl, ap, ◌∙◌, append_assoc, append-nil, arith, Bor}
 use Rattle.std.proofs.lemmas.Bool.Decides.{nat_tests}
-use Rattle.std.proofs.lemmas.Bool.{cond-true, cond-false, both_ways, not-true, not-false, not_from_true, true≢false, cond_both, eq-eqb, ne_eqb, and_from, and_left, and_right}
+use Rattle.std.proofs.lemmas.Bool.{cond-true, cond-false, not_from_true, true≢false, cond_both, eq-eqb, ne_eqb, and_from, and_left, and_right}
 use Rattle.std.specs.Option.{option_map}
 use Rattle.commands.specs.declared.tokens.Token.{Token}
-use Rattle.commands.specs.declared.tokens.Class.TheVariants.{Sign, Held}
+use Rattle.commands.specs.declared.tokens.Class.TheVariants.{Held}
 use Rattle.std.proofs.lemmas.List.{take_rest}
 use Rattle.model.specs.Values.{tail}
 use Rattle.commands.specs.Lists.{front, behind}
 use Rattle.commands.proofs.Shapes.{rest}
-use Rattle.commands.specs.Lines.{Lexeme, plain, quoted, is_space, is_quote, is_sign, within, bounded, is_quoted, between, in_plain, in_quotes, closed, lead, read, tokens_of, Leads}
+use Rattle.commands.specs.Lines.{Lexeme, plain, quoted, is_space, is_quote, is_sign, within, bounded, is_quoted, in_plain, in_quotes, closed, lead, read, tokens_of, Leads}
 
 sign_not_space : (b : ℕ) → is_sign b ≡ true → is_space b ≡ false
 sign_not_space b e = grind (arith, nat_tests)

@@ -1,7 +1,7 @@
 -- What a line asks for: the words of each command, and how they must be.
-use Rattle.std.specs.Prelude.{◌≡◌, ℕ, Bool, cond, not, ◌||◌, List, [], ◌∷◌, map, Some, None, vec_items, codes, Option}
+use Rattle.std.specs.Prelude.{ℕ, Bool, cond, not, List, [], ◌∷◌, map, Some, None, vec_items, codes, Option}
 use Rattle.std.specs.Option.{option_map}
-use Rattle.model.specs.Values.{any, tail, same_bytes}
+use Rattle.model.specs.Values.{any, same_bytes}
 use Rattle.model.specs.Sorts as model
 use Rattle.sorts.specs.Offered.{offered_column}
 use Rattle.commands.specs.declared.parsing.Storage.{Storage}

@@ -1,5 +1,5 @@
 -- How tokens stand in a text, and that the reader finds just these.
-use Rattle.std.specs.Prelude.{◌≡◌, ℕ, Bool, true, not, List, [], ◌∷◌, ◌++◌, Some, Option}
+use Rattle.std.specs.Prelude.{◌≡◌, ℕ, true, not, List, [], ◌∷◌, ◌++◌, Some}
 use Rattle.model.specs.Values.{every}
 use Rattle.commands.specs.Lines.{Lexeme, plain, quoted, is_sign, is_quote, bounded, tokens_of}
 

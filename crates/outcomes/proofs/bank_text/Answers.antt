@@ -1,4 +1,4 @@
-use Rattle.std.proofs.Common.{◌≡◌, ◌++◌, length, codes, decimal, ap, ◌∙◌, append_assoc}
+use Rattle.std.proofs.Common.{◌++◌, length, codes, decimal, ap, ◌∙◌, append_assoc}
 use Rattle.outcomes.specs.Printed.{hex_text, newline}
 use Rattle.outcomes.proofs.bank_text.Goals as goal
 
@@ -6,5 +6,5 @@ pub returns : goal.returns
 returns c =
     let bytes = c.args.bytes.now in
     let n = decimal (length bytes) in
-    let h = c.in-ok-text.ensures.ok in
-    c.in-ok-push-str.ensures.bytes ∙ ap (λ l. l ++ newline) (c.in-ok-push-hex.ensures ∙ ap (λ l. l ++ hex_text bytes) h) ∙ ap (λ l. codes "bank " ++ l) (append_assoc n (hex_text bytes) newline)
+    let h = c.in_ok-text.ensures.ok in
+    c.in_ok-push_str.ensures.bytes ∙ ap (λ l. l ++ newline) (c.in_ok-push_hex.ensures ∙ ap (λ l. l ++ hex_text bytes) h) ∙ ap (λ l. codes "bank " ++ l) (append_assoc n (hex_text bytes) newline)

@@ -1,4 +1,4 @@
-use Rattle.std.proofs.Common.{◌≡◌, not, ◌&&◌, take, sym, refl, ap, ◌∙◌, rules}
+use Rattle.std.proofs.Common.{not, ◌&&◌, take, sym, ap, ◌∙◌}
 use Rattle.model.specs.Sorts.{agrees}
 use Rattle.model.specs.Values.{any}
 use Rattle.cells.specs.Held.{tuple}

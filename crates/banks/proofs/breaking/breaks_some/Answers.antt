@@ -1,4 +1,4 @@
-use Rattle.std.proofs.Common.{◌≡◌, sym, refl, ap, ◌∙◌, rules}
+use Rattle.std.proofs.Common.{sym, ap, ◌∙◌}
 use Rattle.model.specs.Values.{any}
 use Rattle.cells.specs.Held.{tuple, tuples}
 use Rattle.cells.proofs.Walks.{any_more, any_found, any_none}

@@ -1,4 +1,4 @@
-use Rattle.std.proofs.Common.{◌≡◌, ℕ, [], map, length, None, sym, ap, ◌∙◌, subst, rules, MatchOption}
+use Rattle.std.proofs.Common.{◌≡◌, ℕ, [], map, length, None, sym, ap, ◌∙◌, subst, MatchOption}
 use lib.ListN.{length-map}
 use Rattle.model.specs.Faults.{fault}
 use Rattle.model.specs.Judging.{dep_fault}

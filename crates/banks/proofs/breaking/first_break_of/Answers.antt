@@ -1,4 +1,4 @@
-use Rattle.std.proofs.Common.{◌≡◌, true, false, map, take, sym, refl, ap, ◌∙◌, rules}
+use Rattle.std.proofs.Common.{map, take, sym, ap, ◌∙◌}
 use native.Mathlib.Nat.{sub-zero}
 use Rattle.model.specs.Judging.{breaks}
 use Rattle.cells.specs.Held.{tuple, tuples}

@@ -1,4 +1,4 @@
-use Rattle.std.proofs.Common.{◌≡◌, ℕ, List, [], ◌∷◌, ◌++◌, length, vec_items, sym, refl, ap, ◌∙◌, ap₂, rules}
+use Rattle.std.proofs.Common.{[], ◌∷◌, ◌++◌, length, vec_items, sym, ◌∙◌, ap₂}
 use lib.ListN.{length-map}
 use Rattle.model.specs.Banks.{groups, coded_rows}
 use Rattle.cells.specs.Held.{tuple, tuples}

@@ -1,4 +1,4 @@
-use Rattle.std.proofs.Common.{◌≡◌, ℕ, List, [], ◌∷◌, ◌++◌, vec_items, sym, refl, ap, ◌∙◌, rules}
+use Rattle.std.proofs.Common.{[], ◌∷◌, ◌++◌, vec_items, ap, ◌∙◌}
 use Rattle.banks.proofs.Coded.{kinds_of, kinds_more, whole}
 use Rattle.banks.proofs.writing.put_kinds.Goals as goal
 

@@ -1,6 +1,4 @@
-use Rattle.std.proofs.Common.{◌≡◌, ◌++◌, map, take, vec_items}
-use Rattle.model.specs.Banks.{coded_row, coded_rows}
-use Rattle.cells.specs.Held.{tuple, value}
+use Rattle.std.proofs.Common.{◌≡◌, ◌++◌, take, vec_items}
 use Rattle.banks.proofs.Coded.{kinds_of}
 use Rattle.banks.proofs.writing.put_kinds.Given as goal
 

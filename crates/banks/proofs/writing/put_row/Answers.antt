@@ -1,8 +1,8 @@
-use Rattle.std.proofs.Common.{◌≡◌, ℕ, ◌<◌, ◌≤◌, List, [], ◌∷◌, ◌++◌, map, length, get_or, vec_items, sym, refl, ap, ◌∙◌, subst, rules}
-use Rattle.model.specs.Banks.{coded_cell, coded_row, coded_rows}
-use Rattle.cells.specs.Held.{value, tuple}
-use Rattle.banks.specs.Codable.{All, Codable}
-use Rattle.banks.proofs.Coded.{all_at, row_more, rows_more, whole}
+use Rattle.std.proofs.Common.{◌≡◌, ◌<◌, ◌≤◌, ◌++◌, map, length, get_or, vec_items, ap, ◌∙◌, subst}
+use Rattle.model.specs.Banks.{coded_cell, coded_row}
+use Rattle.cells.specs.Held.{value}
+use Rattle.banks.specs.Codable.{Codable}
+use Rattle.banks.proofs.Coded.{all_at, row_more, whole}
 use Rattle.banks.proofs.writing.put_row.Goals as goal
 
 pub put_cell-requires : goal.put_cell-requires

@@ -1,7 +1,6 @@
 use Rattle.std.proofs.Common.{◌≡◌, ◌++◌, map, take, vec_items}
-use Rattle.model.specs.Banks.{coded_row, coded_rows}
-use Rattle.cells.specs.Held.{tuple, value}
-use Rattle.banks.proofs.Coded.{kinds_of}
+use Rattle.model.specs.Banks.{coded_row}
+use Rattle.cells.specs.Held.{value}
 use Rattle.banks.proofs.writing.put_row.Given as goal
 
 abbrev pub invariant-loop-cell : goal.invariant-loop-cell

@@ -1,8 +1,8 @@
-use Rattle.std.proofs.Common.{◌≡◌, ℕ, List, [], ◌∷◌, ◌++◌, map, vec_items, sym, refl, ap, ◌∙◌, rules}
-use Rattle.model.specs.Banks.{coded_cell, coded_row, coded_rows}
-use Rattle.cells.specs.Held.{value, tuple}
+use Rattle.std.proofs.Common.{◌++◌, map, vec_items, ap, ◌∙◌}
+use Rattle.model.specs.Banks.{coded_row, coded_rows}
+use Rattle.cells.specs.Held.{tuple}
 use Rattle.banks.specs.Codable.{All, Codable}
-use Rattle.banks.proofs.Coded.{all_at, row_more, rows_more, whole}
+use Rattle.banks.proofs.Coded.{all_at, rows_more, whole}
 use Rattle.banks.proofs.writing.put_rows.Goals as goal
 
 pub put_row-requires : goal.put_row-requires

@@ -1,7 +1,6 @@
 use Rattle.std.proofs.Common.{◌≡◌, ◌++◌, map, take, vec_items}
-use Rattle.model.specs.Banks.{coded_row, coded_rows}
-use Rattle.cells.specs.Held.{tuple, value}
-use Rattle.banks.proofs.Coded.{kinds_of}
+use Rattle.model.specs.Banks.{coded_rows}
+use Rattle.cells.specs.Held.{tuple}
 use Rattle.banks.proofs.writing.put_rows.Given as goal
 
 abbrev pub invariant-loop-row : goal.invariant-loop-row

@@ -1,6 +1,5 @@
-use Rattle.std.proofs.Common.{◌≡◌, ◌+◌, ◌*◌, ◌<◌, ◌≤◌, length, get_or, take, sym, ap, ◌∙◌, subst, arith, false-eqb}
+use Rattle.std.proofs.Common.{◌≤◌, length, get_or, sym, ap, ◌∙◌, subst, arith, false-eqb}
 use Rattle.std.specs.Str.Parse.{digits_value, AllDigits}
-use Rattle.std.specs.Char.{digit_value}
 use Rattle.std.proofs.lemmas.List.{take_all}
 use Rattle.std.proofs.lemmas.Int.Digits.{digits_value_more, digits_more}
 use Rattle.commands.proofs.Numerals.{front_small, digit_is, digit_under, numeral_not_digits, numeral_above, numeral_some}
@@ -9,11 +8,11 @@ use Rattle.commands.proofs.numbers.number.Goals as goal
 pub returns-then-not-is_ascii_digit : goal.returns-then-not-is_ascii_digit
 returns-then-not-is_ascii_digit c = numeral_not_digits c.args.limit c.args.word.now c.loop-b.b-index c.loop-b-test.true (sym c.if-not-is_ascii_digit.ensures.value)
 
-pub overflow-mul-n : goal.overflow-mul-n
-overflow-mul-n c = omega (arith, front_small c.args.word.now c.loop-b.b-index c.loop-b-test.true c.loop-b.invariant.0 c.loop-b.invariant.2, c.loop-b.invariant.1)
+pub overflow_mul-n : goal.overflow_mul-n
+overflow_mul-n c = omega (arith, front_small c.args.word.now c.loop-b.b-index c.loop-b-test.true c.loop-b.invariant.0 c.loop-b.invariant.2, c.loop-b.invariant.1)
 
-pub overflow-add-n : goal.overflow-add-n
-overflow-add-n c = omega (arith, front_small c.args.word.now c.loop-b.b-index c.loop-b-test.true c.loop-b.invariant.0 c.loop-b.invariant.2, c.loop-b.invariant.1, c.from.ensures, digit_is (get_or c.args.word.now c.loop-b.b-index 0) (sym c.if-not-is_ascii_digit.ensures.value), digit_under (get_or c.args.word.now c.loop-b.b-index 0) (sym c.if-not-is_ascii_digit.ensures.value))
+pub overflow_add-n : goal.overflow_add-n
+overflow_add-n c = omega (arith, front_small c.args.word.now c.loop-b.b-index c.loop-b-test.true c.loop-b.invariant.0 c.loop-b.invariant.2, c.loop-b.invariant.1, c.from.ensures, digit_is (get_or c.args.word.now c.loop-b.b-index 0) (sym c.if-not-is_ascii_digit.ensures.value), digit_under (get_or c.args.word.now c.loop-b.b-index 0) (sym c.if-not-is_ascii_digit.ensures.value))
 
 pub loop-b-preserved : goal.loop-b-preserved
 loop-b-preserved c =

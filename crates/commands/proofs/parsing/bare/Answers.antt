@@ -1,4 +1,4 @@
-use Rattle.std.proofs.Common.{◌≡◌, length, sym, ap, ◌∙◌, rules}
+use Rattle.std.proofs.Common.{◌≡◌, length, sym, ap, rules}
 use Rattle.commands.specs.Forms.{asked, none_after}
 use Rattle.commands.proofs.Shapes.{none_is, none_not}
 use Rattle.commands.proofs.parsing.bare.Goals as goal

@@ -1,7 +1,7 @@
-use Rattle.std.proofs.Common.{◌≡◌, true, false, not, [], length, get_or, sym, ap, ◌∙◌, arith}
+use Rattle.std.proofs.Common.{◌≡◌, false, not, [], length, get_or, sym, ap, ◌∙◌, arith}
 use Rattle.std.proofs.lemmas.List.{get_or-map, length-map, length-take-le}
 use Rattle.commands.specs.Lines.{texts}
-use Rattle.commands.specs.Forms.{no_arrow, is_arrow}
+use Rattle.commands.specs.Forms.{no_arrow}
 use Rattle.commands.proofs.Shapes.{no_ref}
 use Rattle.commands.proofs.Cuts.{passed_more, cut_stop, cut_end}
 use Rattle.commands.proofs.parsing.before_arrow.Goals as goal

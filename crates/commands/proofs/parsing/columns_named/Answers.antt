@@ -1,4 +1,4 @@
-use Rattle.std.proofs.Common.{◌≡◌, ◌≤◌, ◌∷◌, map, length, Some, vec_items, sym, ap, ◌∙◌, append-nil, arith, rules, true-eqb, false-eqb}
+use Rattle.std.proofs.Common.{◌≤◌, ◌∷◌, map, length, Some, vec_items, sym, ap, ◌∙◌, append-nil, arith, rules, true-eqb, false-eqb}
 use Rattle.std.specs.Option.{option_map}
 use Rattle.std.proofs.lemmas.List.{map_push}
 use Rattle.commands.specs.Lists.{and_then}

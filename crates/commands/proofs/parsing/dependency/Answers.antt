@@ -1,7 +1,7 @@
-use Rattle.std.proofs.Common.{◌≡◌, ◌≤◌, length, sym, ap, ◌∙◌, arith, rules}
+use Rattle.std.proofs.Common.{◌≤◌, length, sym, arith, rules}
 use Rattle.std.proofs.lemmas.List.{length-map}
 use Rattle.commands.specs.Lines.{texts}
-use Rattle.commands.specs.Forms.{no_arrow, dep_said}
+use Rattle.commands.specs.Forms.{no_arrow}
 use Rattle.commands.proofs.Cuts.{front_short}
 use Rattle.commands.proofs.Shapes.{rest}
 use Rattle.commands.proofs.Meanings.{dep_none, dep_more, dep_two}

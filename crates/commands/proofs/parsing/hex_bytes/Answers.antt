@@ -1,4 +1,4 @@
-use Rattle.std.proofs.Common.{◌≡◌, ◌+◌, vec_items, sym, subst}
+use Rattle.std.proofs.Common.{◌+◌, sym, subst}
 use Rattle.commands.specs.Spelling.{hex_pair}
 use Rattle.commands.proofs.Shapes.{no_ref}
 use Rattle.commands.proofs.Eaches.{Given, given_none, given_more, given_not, given_all}

@@ -1,8 +1,8 @@
-use Rattle.std.proofs.Common.{◌≡◌, Some, None, vec_items, sym, ap, ◌∙◌, subst}
+use Rattle.std.proofs.Common.{None, vec_items, sym, ap, ◌∙◌}
 use Rattle.std.specs.Option.{option_map}
 use Rattle.commands.specs.Lines.{texts, words_of}
 use Rattle.commands.specs.Forms.{verb_of, says, asked}
-use Rattle.commands.proofs.Meanings.{command_steps, command_unknown, command_malformed, meaning_is}
+use Rattle.commands.proofs.Meanings.{command_steps, command_malformed, meaning_is}
 use Rattle.commands.proofs.parsing.parse.Goals as goal
 
 pub returns-in_default-2 : goal.returns-in_default-2

@@ -1,4 +1,4 @@
-use Rattle.std.proofs.Common.{◌≡◌, length, sym, ap, ◌∙◌, rules}
+use Rattle.std.proofs.Common.{◌≡◌, length, sym, ap, rules}
 use Rattle.commands.specs.Forms.{read_said}
 use Rattle.commands.proofs.Shapes.{two_is, two_not}
 use Rattle.commands.proofs.parsing.read.Goals as goal

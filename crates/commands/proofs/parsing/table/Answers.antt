@@ -1,10 +1,7 @@
-use Rattle.std.proofs.Common.{◌≡◌, ◌≤◌, map, length, vec_items, sym, ap, ◌∙◌, rules}
+use Rattle.std.proofs.Common.{◌≤◌, map, length, vec_items, sym, ap, ◌∙◌, rules}
 use Rattle.std.specs.Option.{option_map}
-use Rattle.commands.specs.Lists.{and_then}
-use Rattle.commands.specs.Lines.{texts}
 use Rattle.sorts.specs.Offered.{offered_column}
-use Rattle.commands.specs.Forms.{table, table_said}
-use Rattle.commands.proofs.Shapes.{table_short, four_more_is, table_without_storage, table_without_room, table_parts}
+use Rattle.commands.proofs.Shapes.{table_short, table_without_storage, table_without_room, table_parts}
 use Rattle.commands.proofs.parsing.table.Goals as goal
 
 pub returns-in_default : goal.returns-in_default

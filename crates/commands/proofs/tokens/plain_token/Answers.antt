@@ -1,5 +1,5 @@
-use Rattle.std.proofs.Common.{◌≡◌, length, sym, ap, ◌∙◌, arith, true-eqb, false-eqb}
-use Rattle.commands.proofs.Readings.{plain_some, plain_unbounded, plain_empty, behind_shorter}
+use Rattle.std.proofs.Common.{sym, true-eqb, false-eqb}
+use Rattle.commands.proofs.Readings.{plain_some, plain_unbounded, plain_empty}
 use Rattle.commands.proofs.tokens.plain_token.Goals as goal
 use Rattle.commands.proofs.tokens.plain_token.Goals.{else-not-is_empty-via-then-not-is_empty+else-ends_token, else-not-is_empty-via-else-not-is_empty}
 

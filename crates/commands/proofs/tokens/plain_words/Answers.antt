@@ -1,4 +1,4 @@
-use Rattle.std.proofs.Common.{◌≡◌, ◌+◌, map, vec_items, sym, ap, ◌∙◌, subst}
+use Rattle.std.proofs.Common.{◌+◌, vec_items, sym, ap, ◌∙◌, subst}
 use Rattle.std.proofs.lemmas.List.{map_push}
 use Rattle.commands.specs.Lines.{lexeme, plain_word, texts}
 use Rattle.commands.proofs.Eaches.{Given, given_none, given_more, given_not, given_all}

@@ -1,4 +1,4 @@
-use Rattle.std.proofs.Common.{◌≡◌, ◌≤◌, [], length, sym, ap, ◌∙◌, arith, rules}
+use Rattle.std.proofs.Common.{◌≤◌, length, sym, ap, arith, rules}
 use Rattle.commands.specs.declared.tokens.Class.TheVariants.{Held}
 use Rattle.commands.specs.Lines.{within}
 use Rattle.commands.proofs.Readings.{quoted_none, quoted_some, quoted_unbounded, behind_short, rest_length}

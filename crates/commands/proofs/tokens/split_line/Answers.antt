@@ -1,4 +1,4 @@
-use Rattle.std.proofs.Common.{◌≡◌, ◌≤◌, length, ap, ◌∙◌, arith, rules}
+use Rattle.std.proofs.Common.{◌≤◌, length, ap, ◌∙◌, arith, rules}
 use Rattle.model.specs.Values.{tail}
 use Rattle.commands.specs.declared.tokens.Class.TheVariants.{Line}
 use Rattle.commands.specs.Lines.{within}

@@ -1,4 +1,4 @@
-use Rattle.std.proofs.Common.{◌≡◌, map, vec_items, sym, ap, ◌∙◌, arith, false-eqb}
+use Rattle.std.proofs.Common.{map, vec_items, sym, ap, ◌∙◌, false-eqb}
 use Rattle.std.proofs.lemmas.List.{map_push}
 use Rattle.commands.specs.Lines.{lexeme, tokens_of}
 use Rattle.commands.proofs.Readings.{before, before_none, before_lead, space_first}

@@ -1,12 +1,12 @@
-use Rattle.std.proofs.Common.{◌≡◌, ℕ, ◌-◌, cond, List, ◌∷◌, length, take, drop, sym, refl, ap, ◌∙◌, arith, rules}
+use Rattle.std.proofs.Common.{◌-◌, length, take, drop, sym, refl, ap, ◌∙◌, rules}
 use lib.ListN.{length-map}
-use Rattle.model.specs.Banks.{bad, header, place_in, read_header}
+use Rattle.model.specs.Banks.{bad, place_in}
 use Rattle.columns.specs.Named.{named_column, named_columns}
 use Rattle.banks.specs.Fields.{kind_bytes}
 use Rattle.banks.proofs.Texts.{refuses, answered}
 use Rattle.banks.proofs.Loops.{header_opens, count_not_due}
 use Rattle.banks.proofs.cursor.Cursor.header.Goals as goal
-use Rattle.banks.proofs.cursor.Cursor.header.Goals.{then-this-lt2+in-1·, in-1+else-count-columns}
+use Rattle.banks.proofs.cursor.Cursor.header.Goals.{then-this-lt2+in-1-1, in-1+else-count-columns}
 
 pub returns-in-1 : goal.returns-in-1
 returns-in-1 c =
@@ -25,4 +25,4 @@ returns-in-1-2 c =
     let same = length-map c.args.columns.now named_column in
     refuses c.args.self.now.kind _ c.bad.result _ c.bad.ensures
     (count_not_due size (length C) (kind_bytes C) b (search rules) (search rules)
-    (elim c.in-1-2·.branch [ then-this-lt2+in-1· w ↦ λ l e. search rules | in-1+else-count-columns w ↦ λ l e. w.if-count-columns.false (e ∙ same) ]) ∙ ap (λ n. bad n (place_in size r)) (sym c.mismatch.ensures)) refl
+    (elim c.in-1-2-1.branch [ then-this-lt2+in-1-1 w ↦ λ l e. search rules | in-1+else-count-columns w ↦ λ l e. w.if-count-columns.false (e ∙ same) ]) ∙ ap (λ n. bad n (place_in size r)) (sym c.mismatch.ensures)) refl

@@ -1,10 +1,9 @@
-use Rattle.std.proofs.Common.{◌≡◌, ◌+◌, [], ◌∷◌, ◌++◌, map, drop, Err, vec_items, sym, refl, ap, ◌∙◌, rules}
+use Rattle.std.proofs.Common.{◌≡◌, ◌+◌, [], ◌∷◌, ◌++◌, map, drop, Err, vec_items, sym, ap, ◌∙◌}
 use Rattle.std.proofs.lemmas.List.{map_push}
 use Rattle.std.proofs.lemmas.Result.{err_from_is_err_and}
-use Rattle.model.specs.Banks.{found, bad, read_cell, read_cells}
+use Rattle.model.specs.Banks.{found, read_cell, read_cells}
 use Rattle.cells.specs.Held.{kind_of, value, tuple}
 use Rattle.columns.specs.Named.{named_column}
-use Rattle.banks.specs.Fields.{left}
 use Rattle.banks.proofs.Texts.{passed_on}
 use Rattle.banks.proofs.Loops.{cells_after, cells_step, cells_stop, cells_end}
 use Rattle.banks.proofs.cursor.Cursor.row.Goals as goal

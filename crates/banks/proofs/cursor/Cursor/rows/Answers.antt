@@ -1,7 +1,7 @@
-use Rattle.std.proofs.Common.{◌≡◌, ◌+◌, ◌-◌, [], ◌∷◌, ◌++◌, Some, None, Err, vec_items, sym, refl, ap, ◌∙◌, ap₂, rules}
+use Rattle.std.proofs.Common.{◌≡◌, ◌+◌, ◌-◌, [], ◌∷◌, ◌++◌, None, Err, vec_items, sym, refl, ap, ◌∙◌, ap₂}
 use Rattle.std.proofs.lemmas.List.{map_push}
 use Rattle.std.proofs.lemmas.Result.{err_from_is_err_and}
-use Rattle.model.specs.Banks.{found, read_row, read_rows}
+use Rattle.model.specs.Banks.{read_row, read_rows}
 use Rattle.cells.specs.Held.{tuple, tuples}
 use Rattle.banks.specs.Fields.{held, row_before}
 use Rattle.sorts.specs.Sealed.{sort_of}

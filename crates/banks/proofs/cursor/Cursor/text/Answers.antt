@@ -1,6 +1,5 @@
-use Rattle.std.proofs.Common.{◌≡◌, true, false, sym, refl, ap, ◌∙◌, arith, rules}
+use Rattle.std.proofs.Common.{sym, refl, ap, ◌∙◌, arith, rules}
 use Rattle.model.specs.Sorts.{is_text, texts}
-use Rattle.model.specs.Banks.{read_cell}
 use Rattle.cells.specs.Held.{value}
 use Rattle.banks.proofs.Texts.{refuses, text_none, text_found}
 use Rattle.banks.proofs.cursor.Cursor.text.Goals as goal

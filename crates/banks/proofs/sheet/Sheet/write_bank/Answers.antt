@@ -1,4 +1,4 @@
-use Rattle.std.proofs.Common.{◌≡◌, length, sym, ap, subst, arith, rules}
+use Rattle.std.proofs.Common.{length, sym, ap, subst, arith}
 use Rattle.cells.specs.Held.{tuples}
 use Rattle.sorts.specs.Sealed.{sort_of}
 use Rattle.banks.specs.Codable.{All, Codable}

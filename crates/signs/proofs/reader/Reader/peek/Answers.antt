@@ -28,8 +28,8 @@ returns-then-place-text c =
     let a = c.args.self.now.at in
     spaced b a c.run.result (n_is b a _ c.run.ensures.value) ∙ no_sign b (a + c.run.result) (omega arith)
 
-pub overflow-add-result-2 : goal.overflow-add-result-2
-overflow-add-result-2 c =
+pub overflow_add-result-2 : goal.overflow_add-result-2
+overflow_add-result-2 c =
     let b = c.args.self.now.text.now in
     let a = c.args.self.now.at in
     let more = ap (λ (p : Piece). p.more) c.piece_at-piece.ensures in
