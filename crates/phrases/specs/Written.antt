@@ -1,5 +1,5 @@
 -- What phrases and steps of the program say.
-use Rattle.std.specs.Prelude.{ℕ, List, map}
+use Rattle.std.specs.Prelude.{List, map}
 use Rattle.model.specs.Values.{Value, num}
 use Rattle.cells.specs.Held.{offered}
 use Rattle.conditions.specs.Meaning.{sign_of}

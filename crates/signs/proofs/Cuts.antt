@@ -1,9 +1,9 @@
 -- The sign at a place, by its first byte.
-use Rattle.std.proofs.Common.{◌≡◌, ℕ, suc, ◌+◌, ◌-◌, ◌<◌, Bool, true, false, cond, ◌&&◌, eqb, List, [], ◌∷◌, length, get_or, take, drop, sym, refl, ap, ◌∙◌, arith}
+use Rattle.std.proofs.Common.{◌≡◌, ℕ, suc, ◌+◌, ◌-◌, ◌<◌, Bool, true, false, ◌&&◌, eqb, List, ◌∷◌, length, get_or, take, drop, ap, ◌∙◌, arith}
 use Rattle.std.proofs.lemmas.List.{drop_more}
 use Rattle.std.proofs.lemmas.Bool.{cond-true, cond-false}
 use Rattle.model.specs.Words.{is_letter}
-use Rattle.grammar.specs.Signs.{front, touches, is_digit, Piece, sign_at, quote_piece, quote_sign, mark, equals_next}
+use Rattle.grammar.specs.Signs.{front, touches, is_digit, sign_at, quote_piece, quote_sign, mark, equals_next}
 use Rattle.signs.proofs.Runs.{front_take}
 
 -- the byte at p and the run behind it, as a part of the text

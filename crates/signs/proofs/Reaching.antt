@@ -1,10 +1,10 @@
 -- The signs from a place on: spaces are passed over, and so are the bytes of a sign.
-use Rattle.std.proofs.Common.{◌≡◌, ℕ, zero, suc, ◌+◌, ◌-◌, ◌<◌, ◌≤◌, Bool, true, false, cond, ◌&&◌, eqb, List, [], ◌∷◌, length, get_or, drop, sym, refl, ap, ◌∙◌, subst, add-zero, add-one, arith}
+use Rattle.std.proofs.Common.{◌≡◌, ℕ, zero, suc, ◌+◌, ◌<◌, ◌≤◌, Bool, true, false, cond, ◌&&◌, eqb, List, [], ◌∷◌, length, get_or, drop, sym, refl, ap, ◌∙◌, add-zero, add-one, arith}
 use Rattle.std.proofs.lemmas.List.{drop_all, drop_more, length-drop}
 use Rattle.std.proofs.lemmas.Bool.{cond-true, cond-false, cond_both, both_ways}
 use Rattle.model.specs.Words.{is_letter}
 use Rattle.model.specs.Sorts.{is_text_byte}
-use Rattle.grammar.specs.Signs.{at, Piece, front, touches, is_digit, sign_at, signs_from, mark, equals_next, quote_end, quote_sign, quote_more, held}
+use Rattle.grammar.specs.Signs.{at, Piece, front, touches, is_digit, sign_at, signs_from, mark, equals_next, quote_end, quote_more, held}
 use Rattle.signs.specs.Reached.{before, signs_at}
 use Rattle.signs.proofs.Runs.{front_short}
 

@@ -1,5 +1,5 @@
 -- What the signs of the program say.
-use Rattle.std.specs.Prelude.{ℕ, Bool, List, ◌==◌}
+use Rattle.std.specs.Prelude.{ℕ, Bool, ◌==◌}
 use Rattle.model.specs.Words.{is_letter}
 use Rattle.model.specs.Sorts.{is_text_byte}
 use Rattle.conditions.specs.Meaning.{sign_of}

@@ -1,4 +1,4 @@
-use Rattle.std.proofs.Common.{◌≡◌, ap, ◌∙◌, arith}
+use Rattle.std.proofs.Common.{ap, arith}
 use Rattle.cells.specs.Held.{kind_of}
 use Rattle.session.specs.Callers.{cell_width}
 use Rattle.session.proofs.Widths.{width_most, width_more, width_end}

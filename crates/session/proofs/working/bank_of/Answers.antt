@@ -1,4 +1,3 @@
-use Rattle.std.proofs.Common.{◌≡◌, length, sym, ap, ◌∙◌}
 use Rattle.model.specs.Banks.{bank}
 use Rattle.banks.specs.Sheets.{store, relation}
 use Rattle.session.proofs.Loads.{bank_cut}

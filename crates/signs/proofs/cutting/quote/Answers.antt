@@ -1,4 +1,4 @@
-use Rattle.std.proofs.Common.{◌≡◌, take, drop, ap, ◌∙◌, ap₂}
+use Rattle.std.proofs.Common.{take, drop, ap, ◌∙◌, ap₂}
 use Rattle.model.specs.Sorts.{is_text_byte}
 use Rattle.grammar.specs.Signs.{quote_end, quote_piece}
 use Rattle.signs.proofs.Runs.{front_take}

@@ -1,4 +1,4 @@
-use Rattle.std.proofs.Common.{◌≡◌, ap}
+use Rattle.std.proofs.Common.{ap}
 use Rattle.std.specs.Option.{option_map}
 use Rattle.sorts.specs.Describing.{later_column_fault, with_column}
 use Rattle.sorts.specs.Described.{described}

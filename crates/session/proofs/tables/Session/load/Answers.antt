@@ -1,4 +1,4 @@
-use Rattle.std.proofs.Common.{◌≡◌, sym}
+use Rattle.std.proofs.Common.{sym}
 use Rattle.model.specs.Banks.{read_bank}
 use Rattle.session.specs.Callers.{caller, loaded}
 use Rattle.session.proofs.Loads.{on_it, load_at}

@@ -1,4 +1,4 @@
-use Rattle.std.proofs.Common.{◌≡◌, sym, ap, ◌∙◌, subst, ap₂}
+use Rattle.std.proofs.Common.{sym, ap, ◌∙◌, subst, ap₂}
 use Rattle.commands.specs.Forms.{asked}
 use Rattle.sorts.specs.Offered.{words}
 use Rattle.session.specs.Callers.{caller, reply, Replies, dependency_reply}

@@ -1,4 +1,4 @@
-use Rattle.std.proofs.Common.{◌≡◌, ◌<◌, length, vec_items, sym, ap, ◌∙◌, subst}
+use Rattle.std.proofs.Common.{◌<◌, length, vec_items, sym, ap, ◌∙◌, subst}
 use Rattle.std.specs.Option.{option_map}
 use Rattle.model.specs.Banks.{read_bank}
 use Rattle.session.specs.Callers.{caller, stored, loaded, from_file}

@@ -1,9 +1,8 @@
-use Rattle.std.proofs.Common.{◌≡◌, ℕ, ◌+◌, ◌-◌, ◌<◌, true, false, List, [], ◌∷◌, length, get_or, take, drop, sym, refl, ap, ◌∙◌, arith}
+use Rattle.std.proofs.Common.{◌≡◌, ℕ, ◌+◌, ◌-◌, ◌<◌, false, List, ◌∷◌, length, get_or, take, drop, sym, refl, ap, ◌∙◌, arith}
 use Rattle.std.proofs.lemmas.List.{take_rest, get_or-drop, length-drop}
 use Rattle.grammar.specs.Signs.{at, Piece, front, sign_at}
 use Rattle.signs.specs.Reached.{before, signs_at, First}
 use Rattle.signs.specs.Spoken.{cut}
-use Rattle.signs.specs.declared.sign.Sign.{Sign}
 use Rattle.signs.specs.declared.cutting.Piece as program
 use Rattle.signs.proofs.Reaching.{is_space, spaces, front_stops, first_sign, first_inside, no_sign}
 use Rattle.signs.proofs.reader.Reader.peek.Goals as goal
