@@ -1,5 +1,5 @@
 -- Judging a sign by another judge.
-use Rattle.std.proofs.Common.{◌≡◌, ℕ, true, List, [], Ok, Err, sym, refl, ap, ◌∙◌, subst, Bor}
+use Rattle.std.proofs.Common.{◌≡◌, ℕ, true, List, Err, sym, refl, ap, ◌∙◌, subst, Bor}
 use Rattle.std.proofs.lemmas.Bool.{cond-true}
 use Rattle.model.specs.Sorts.{is_text}
 use Rattle.model.specs.Values.{Value, text}

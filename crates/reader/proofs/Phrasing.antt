@@ -1,18 +1,18 @@
 -- What is said of a phrase, from what is said of its parts.
-use Rattle.std.proofs.Common.{◌≡◌, ℕ, Bool, List, [], ◌∷◌, ◌++◌, length, Some, Ok, Err, Result, sym, refl, ap, ◌∙◌, subst, Bor}
+use Rattle.std.proofs.Common.{◌≡◌, ℕ, Bool, List, [], ◌∷◌, ◌++◌, length, Ok, Err, Result, sym, refl, ap, ◌∙◌, subst, Bor}
 use Rattle.std.proofs.lemmas.List.{append_assoc}
 use Rattle.cells.specs.declared.faults.Refusal.{Refusal}
 use Rattle.cells.specs.declared.faults.Refusal.TheVariants.{Fault, Memory}
 use Rattle.grammar.specs.Signs.{Sign, Token}
 use Rattle.grammar.specs.Phrases as grammar
 use Rattle.grammar.specs.Phrases.{Term, compared, negated, bracket, both, either}
-use Rattle.grammar.specs.Reading.{Item, leaf, a_not, a_bracket, an_and, an_or, Want, Taken, goes, a_neg, an_op, an_operand, more_and, more_or, a_closing, complete, a_condition, on_comparing, on_operand, on_word, is_closing, is_opening, is_key, go_on, Read, reads, following, run, steps}
+use Rattle.grammar.specs.Reading.{Item, leaf, a_not, a_bracket, an_and, an_or, Want, Taken, goes, a_neg, an_op, an_operand, a_closing, complete, on_comparing, on_operand, on_word, is_closing, Read, following, steps}
 use Rattle.model.specs.Conditions.{Comparison}
 use Rattle.phrases.specs.Written.{phrase}
 use Rattle.phrases.specs.declared.phrase.Phrase.{Phrase}
 use Rattle.signs.specs.Reached.{signs_at, Lacking}
-use Rattle.reader.specs.Saying.{from, Awaits, Next, postfix, Stops, Said, Longer, SaidOn, on_test}
-use Rattle.reader.proofs.Running.{following_all, complete_run, and_found, or_found}
+use Rattle.reader.specs.Saying.{from, Awaits, Next, postfix, Said, SaidOn, on_test}
+use Rattle.reader.proofs.Running.{following_all, complete_run}
 
 -- a condition's items leave its tree
 pub steps_postfix : (k : grammar.Phrase) (l : List Item) (S : List grammar.Phrase) → steps (postfix k ++ l) S ≡ steps l (k ∷ S)

@@ -1,10 +1,10 @@
 -- How reading goes on: one sign, one item, and what may follow but does not.
-use Rattle.std.proofs.Common.{◌≡◌, ℕ, Bool, true, false, cond, List, [], ◌∷◌, ◌++◌, length, sym, refl, ap, ◌∙◌, subst, Bor}
+use Rattle.std.proofs.Common.{◌≡◌, ℕ, Bool, List, [], ◌∷◌, ◌++◌, length, sym, refl, ap, ◌∙◌, Bor}
 use Rattle.std.proofs.lemmas.List.{append_assoc}
 use Rattle.std.proofs.lemmas.Bool.{cond-true, cond-false}
-use Rattle.grammar.specs.Signs.{Sign, Token, at, AND, OR, NOT}
-use Rattle.grammar.specs.Reading.{Item, Want, Taken, goes, stops, takes, after, at_end, go_on, Read, reads, following, run, complete, more_and, more_or, a_neg, an_op, an_and, an_or, on_word, is_key, is_opening}
-use Rattle.signs.specs.Reached.{signs_at, Lacking, Found}
+use Rattle.grammar.specs.Signs.{Sign, Token, AND, OR, NOT}
+use Rattle.grammar.specs.Reading.{Item, Want, Taken, goes, stops, takes, after, go_on, Read, reads, following, run, complete, more_and, more_or, a_neg, an_op, an_and, an_or, on_word, is_key, is_opening}
+use Rattle.signs.specs.Reached.{Lacking, Found}
 use Rattle.reader.specs.Saying.{from, Awaits}
 
 -- the text behind equal references

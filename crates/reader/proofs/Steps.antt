@@ -1,16 +1,15 @@
 -- What is said of steps and lists of steps, from what is said of their parts.
-use Rattle.std.proofs.Common.{◌≡◌, ℕ, Bool, true, false, cond, List, [], ◌∷◌, ◌++◌, length, Some, Ok, Err, Result, sym, refl, ap, ◌∙◌, subst, Bor}
+use Rattle.std.proofs.Common.{◌≡◌, ℕ, Bool, false, List, [], ◌∷◌, ◌++◌, length, Some, Ok, Err, Result, sym, refl, ap, ◌∙◌, subst, Bor}
 use Rattle.std.proofs.lemmas.List.{append_assoc, append-nil, map_push}
 use Rattle.std.proofs.lemmas.Bool.{cond-true, cond-false}
 use Rattle.cells.specs.Numbered.{told}
 use Rattle.cells.specs.declared.faults.Fault as program_fault
 use Rattle.cells.specs.declared.faults.Refusal.{Refusal}
 use Rattle.cells.specs.declared.faults.Refusal.TheVariants.{Fault, Memory}
-use Rattle.model.specs.Values.{Value}
 use Rattle.grammar.specs.Signs.{Sign, Token, AS, DEFAULT, DROP, JOIN, RENAME, SELECT}
 use Rattle.grammar.specs.Phrases as grammar
 use Rattle.grammar.specs.Phrases.{Step, Placed, placed, drop, rename, select, source, join}
-use Rattle.grammar.specs.Reading.{Item, a_select, a_step, Want, Taken, goes, takes, complete, drop_column, drop_default, drop_cell, rename_column, rename_as, rename_word, a_closing, a_condition, a_source, more_steps, on_cell, on_word, is_closing, is_key, is_opening, deeper, go_on, Read, reads, following, run, steps}
+use Rattle.grammar.specs.Reading.{Item, a_select, a_step, Want, Taken, goes, complete, drop_column, drop_default, drop_cell, rename_column, rename_as, rename_word, a_closing, a_condition, a_source, more_steps, on_cell, on_word, is_closing, is_key, is_opening, deeper, go_on, Read, reads, following, run, steps}
 use Rattle.phrases.specs.Written as written
 use Rattle.phrases.specs.declared.phrase.Phrase.{Phrase}
 use Rattle.phrases.specs.declared.steps.Step as program
@@ -18,7 +17,7 @@ use Rattle.phrases.specs.declared.steps.Placed as program_placed
 use Rattle.signs.specs.Reached.{signs_at, Lacking, Found}
 use Rattle.reader.specs.Judging.{Judged}
 use Rattle.reader.specs.Saying.{from, Awaits, Next, Said, postfix, Stops, on_test}
-use Rattle.reader.specs.Stepping.{step_items, all_items, Stepped, Adds, StopsAdding, Built, on_table}
+use Rattle.reader.specs.Stepping.{step_items, all_items, Stepped, Adds, Built, on_table}
 use Rattle.reader.proofs.Running.{following_all, complete_run, found_goes}
 use Rattle.reader.proofs.Phrasing.{steps_postfix}
 

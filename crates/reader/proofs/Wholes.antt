@@ -1,15 +1,14 @@
 -- Whole texts.
-use Rattle.std.proofs.Common.{◌≡◌, ℕ, ◌≤◌, leb, List, [], ◌∷◌, ◌++◌, length, Some, None, Ok, Err, Option, Result, sym, refl, ap, ◌∙◌, subst}
+use Rattle.std.proofs.Common.{◌≡◌, ℕ, ◌≤◌, leb, List, [], ◌∷◌, ◌++◌, length, None, Ok, Err, Option, Result, sym, refl, ap, ◌∙◌, subst}
 use Rattle.std.proofs.lemmas.List.{append_assoc, append-nil}
-use Rattle.std.proofs.lemmas.Bool.{cond-true, cond-false, le-leb, lt-leb}
+use Rattle.std.proofs.lemmas.Bool.{cond-true, le-leb}
 use Rattle.model.specs.Faults as model
 use Rattle.cells.specs.Answering.{Answers}
-use Rattle.cells.specs.Numbered.{told}
 use Rattle.cells.specs.declared.faults.Refusal.{Refusal}
 use Rattle.cells.specs.declared.faults.Refusal.TheVariants.{Fault, Memory}
 use Rattle.grammar.specs.Phrases as grammar
 use Rattle.grammar.specs.Phrases.{Placed, compared, negated, bracket, both, either}
-use Rattle.grammar.specs.Reading.{Item, a_not, a_bracket, an_and, an_or, a_condition, a_definition, Want, Read, reads, following, within_256, read_condition, read_definition, condition_fault, condition_trees, definition_steps, definition_fault, trees, steps}
+use Rattle.grammar.specs.Reading.{Item, a_not, a_bracket, an_and, an_or, a_condition, a_definition, Want, Read, following, read_condition, read_definition, condition_fault, condition_trees, definition_steps, definition_fault, trees, steps}
 use Rattle.phrases.specs.Written.{phrase}
 use Rattle.phrases.specs.declared.phrase.Phrase.{Phrase}
 use Rattle.reader.specs.Saying.{from, postfix, Said, Ends}

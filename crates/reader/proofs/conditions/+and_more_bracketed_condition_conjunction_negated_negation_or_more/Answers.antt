@@ -1,7 +1,6 @@
-use Rattle.std.proofs.Common.{◌≡◌, List, [], ◌∷◌, length, Ok, Err, ap, ◌∙◌, subst, rules}
+use Rattle.std.proofs.Common.{List, [], ◌∷◌, length, Ok, Err, ap, ◌∙◌, rules}
 use Rattle.std.proofs.lemmas.Result.{err_from_is_err_and}
-use Rattle.grammar.specs.Reading.{Want, a_neg, a_not, a_bracket, a_closing, a_condition, an_and, an_op, an_or, complete, goes, is_closing, is_key, is_opening, more_and, more_or, following, on_word}
-use Rattle.grammar.specs.Signs.{AND, NOT, OR}
+use Rattle.grammar.specs.Reading.{Want, a_neg, a_not, a_bracket, a_closing, a_condition, an_and, an_op, an_or, complete, goes, is_closing, is_opening, more_and, more_or, following, on_word}
 use Rattle.phrases.specs.Written.{phrase}
 use Rattle.signs.specs.Reached.{signs_at}
 use Rattle.reader.specs.Judging.{spelt}

@@ -1,9 +1,8 @@
-use Rattle.std.proofs.Common.{◌≡◌, ℕ, List, [], ◌∷◌, ◌++◌, Ok, Err, vec_items, sym, refl, ap, ◌∙◌, subst, Bor, rules}
+use Rattle.std.proofs.Common.{ℕ, List, ◌∷◌, Ok, Err, vec_items, refl, ◌∙◌, subst, Bor, rules}
 use Rattle.std.proofs.lemmas.Result.{err_from_is_err_and}
-use Rattle.grammar.specs.Phrases.{placed}
-use Rattle.grammar.specs.Reading.{a_closing, a_condition, a_definition, a_select, a_source, complete, drop_column, is_closing, is_key, is_opening, more_steps, rename_column}
-use Rattle.grammar.specs.Signs.{DROP, JOIN, RENAME, SELECT}
-use Rattle.phrases.specs.Written.{all_placed, step}
+use Rattle.grammar.specs.Reading.{a_condition, a_definition, a_select, complete, drop_column, is_closing, is_key, more_steps, rename_column}
+use Rattle.grammar.specs.Signs.{DROP, RENAME, SELECT}
+use Rattle.phrases.specs.Written.{all_placed}
 use Rattle.reader.specs.Saying.{from, on_test}
 use Rattle.reader.specs.Stepping.{Built, on_table, table}
 use Rattle.reader.proofs.Phrasing.{lacking_moved, next_moved, next_moved_at}

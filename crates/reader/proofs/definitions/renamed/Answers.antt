@@ -3,7 +3,6 @@ use Rattle.std.proofs.lemmas.Result.{err_from_is_err_and}
 use Rattle.grammar.specs.Phrases.{placed, rename}
 use Rattle.grammar.specs.Reading.{Want, a_step, rename_column, rename_as, rename_word, goes, is_key, on_word}
 use Rattle.grammar.specs.Signs.{AS}
-use Rattle.phrases.specs.Written.{constant}
 use Rattle.signs.specs.Reached.{signs_at}
 use Rattle.reader.specs.Judging.{spelt}
 use Rattle.reader.specs.Saying.{from, on_test}

@@ -1,5 +1,7 @@
-use Rattle.std.proofs.Common.{◌≤◌, length, Ok, Err, ◌∙◌, arith}
+use Rattle.std.proofs.Common.{◌≡◌, [], ◌∷◌, Ok, Err, ◌∙◌, arith}
 use Rattle.std.proofs.lemmas.Result.{err_from_is_err_and}
+use Rattle.grammar.specs.Reading.{condition_trees}
+use Rattle.phrases.specs.Written.{phrase}
 use Rattle.reader.proofs.Running.{same_text}
 use Rattle.reader.proofs.Wholes.{condition_err, condition_more, condition_read, ends_moved, said_begins}
 use Rattle.reader.proofs.reading.read_condition.Goals as goal
@@ -11,7 +13,7 @@ returns-in_err-phrase c =
     let z = c.condition.new.reader.at in
     let f = c.in_err-phrase.field-0.0 in
     let h = said_begins b c.new-reader.result.text.now c.new-reader.result.at (Err f) z c.new-reader.ensures.text c.new-reader.ensures.at c.in_err-phrase.ensures.said in
-    rw (p.1, p.2) (condition_err b _ f z (omega arith) h)
+    rw (p.1, p.2) (condition_err b (λ k. condition_trees b ≡ phrase k ∷ []) f z (omega arith) h)
 
 pub returns-in_err-check_end : goal.returns-in_err-check_end
 returns-in_err-check_end c =
@@ -22,7 +24,7 @@ returns-in_err-check_end c =
     let f = c.in_err-check_end.field-0.0 in
     let h = said_begins b c.new-reader.result.text.now c.new-reader.result.at (Ok k) z c.new-reader.ensures.text c.new-reader.ensures.at c.in_ok-phrase.ensures.said in
     let g = ends_moved b c.condition.new.reader.text.now z (Err f) (same_text c.condition.ensures.same ∙ c.new-reader.ensures.text) c.in_err-check_end.ensures in
-    rw (p.1, p.2) (condition_more b _ k f z (omega arith) h g)
+    rw (p.1, p.2) (condition_more b (λ k. condition_trees b ≡ phrase k ∷ []) k f z (omega arith) h g)
 
 pub returns : goal.returns
 returns c =
