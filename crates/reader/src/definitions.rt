@@ -6,7 +6,7 @@ ghost use Rattle.phrases.specs.Written.{all_placed, step as step_of};
 ghost use Rattle.reader.specs.Saying.{Next, from};
 ghost use Rattle.reader.specs.Stepping.{Built, Stepped, on_table, table};
 
-use crate::conditions::condition;
+use crate::connectives::condition;
 use crate::nexts::{next_closing, next_constant, next_key, next_word};
 use crate::terminals::{deeper, wanted, word};
 use cells::Refusal;

@@ -1,7 +1,7 @@
 //! Conditions and definitions, read from text.
 #![tactic(auto)]
 
-mod conditions;
+mod connectives;
 mod definitions;
 mod nexts;
 mod reading;

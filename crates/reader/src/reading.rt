@@ -8,7 +8,7 @@ ghost use Rattle.phrases.specs.Written.{all_placed, phrase};
 ghost use Rattle.reader.specs.Saying.{Ends, from};
 ghost use Rattle.reader.specs.Stepping.{Whole};
 
-use crate::conditions::condition;
+use crate::connectives::condition;
 use crate::definitions::definition;
 use cells::{Cause, Fault, Refusal, refused};
 use phrases::{Phrase, Placed};

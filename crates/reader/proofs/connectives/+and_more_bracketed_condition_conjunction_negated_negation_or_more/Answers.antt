@@ -7,7 +7,7 @@ use Rattle.reader.specs.Judging.{spelt}
 use Rattle.reader.specs.Saying.{from, on_test, postfix}
 use Rattle.reader.proofs.Running.{and_found, or_found, neg_awaits}
 use Rattle.reader.proofs.Phrasing.{and_joins, closing_err, closing_goes, item_over, lacking_moved, next_err, next_moved, next_moved_at, one_more, or_joins, said_from, said_moved, said_on, said_on_moved, said_stops, word_goes}
-use Rattle.reader.proofs.conditions.+and_more_bracketed_condition_conjunction_negated_negation_or_more.Goals as goal
+use Rattle.reader.proofs.connectives.+and_more_bracketed_condition_conjunction_negated_negation_or_more.Goals as goal
 
 pub negated-returns : goal.negated-returns
 negated-returns t c =

@@ -5,7 +5,7 @@ use Rattle.grammar.specs.Reading.{an_op, an_operand, on_operand}
 use Rattle.phrases.specs.Written.{term}
 use Rattle.reader.specs.Saying.{from}
 use Rattle.reader.proofs.Phrasing.{op_err, op_goes, operand_err, operand_goes, said_from, next_moved}
-use Rattle.reader.proofs.conditions.comparison.Goals as goal
+use Rattle.reader.proofs.connectives.comparison.Goals as goal
 
 pub returns-in_err-sign : goal.returns-in_err-sign
 returns-in_err-sign c =

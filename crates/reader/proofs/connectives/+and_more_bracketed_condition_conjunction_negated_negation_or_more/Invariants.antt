@@ -1,5 +1,5 @@
 use Rattle.std.proofs.Common.{◌+◌, ◌-◌, ◌*◌, length}
-use Rattle.reader.proofs.conditions.+and_more_bracketed_condition_conjunction_negated_negation_or_more.Given as goal
+use Rattle.reader.proofs.connectives.+and_more_bracketed_condition_conjunction_negated_negation_or_more.Given as goal
 
 abbrev pub decreases-negation : goal.decreases-negation
 decreases-negation l = 8 * (length l.reader.now.text.now - l.reader.now.at)
