@@ -1,7 +1,7 @@
 #!/usr/bin/env bash
 # Programs that go out of turn must not compile. A must-fail edit cannot say so: it has to reach the prover, and these end
-# before. Each program is written to a temporary folder and lowered by the kit's front end, over the sources of the crates
-# and without any proof, so that this takes a few seconds.
+# before. Each program stands in a repository of its own in a temporary folder, above copies of the crates, and is built by
+# `rt try`, which proves nothing, so that each takes some seconds.
 #   - every adding call of a description is unknown to a sealed sort;
 #   - a description that was sealed is gone: it was moved;
 #   - nobody outside makes a sort, or reaches into one;
@@ -9,12 +9,10 @@
 set -euo pipefail
 cd "$(dirname "$0")/.."
 
-kit=$(dirname "$(dirname "$(rt doc)")")
-front=$kit/bin/rattle-print-mir
-[ -x "$front" ] || { echo "out of turn: the kit has no $front" >&2; exit 2; }
-
 work=$(mktemp -d)
 trap 'rm -rf "$work"' EXIT
+turn=$work/crates/turn
+mkdir -p "$turn/src"
 
 # The crates that `sorts` stands on, each after those that it uses, and `sorts` itself.
 crates=
@@ -24,24 +22,30 @@ reach() {
     case " $crates " in *" $1 "*) ;; *) crates="$crates $1" ;; esac
 }
 reach sorts
-words=(--crate-name turn --extern "std=$kit/rlib/std.rlib" -L "dependency=$kit/rlib")
-for crate in $crates; do words+=(--lib "$crate=crates/$crate/src/lib.rt"); done
+for crate in $crates; do
+    mkdir "$work/crates/$crate"
+    for part in src specs proofs; do
+        [ ! -d "crates/$crate/$part" ] || cp -R "crates/$crate/$part" "$work/crates/$crate"
+    done
+    grep "^$crate:" crates.txt >>"$work/crates.txt"
+done
+echo "turn:$crates" >>"$work/crates.txt"
 
 fail() {
     echo "out of turn: $1" >&2
-    sed 's/^/    /' "$work/main.rt" "$work/errors" >&2
+    sed 's/^/    /' "$turn/src/main.rt" "$work/errors" >&2
     exit 1
 }
 
-# lower LINES...: a function with these lines, lowered; the errors are in $work/errors
+# lower LINES...: a function with these lines, compiled; the errors are in $work/errors
 lower() {
     {
         printf 'use %s;\n' conditions::Written sorts::Description sorts::NewColumn sorts::Sort std::alloc::Global
         printf '%s\n' '' "fn turn(heap: Global, title: NewColumn<'_>, condition: Written) {"
         printf '    %s\n' 'let mut table = Description::new(heap);' 'let left: [&[u8]; 1] = [b"title"];' 'let right: [&[u8]; 1] = [b"bank"];' "$@"
         printf '%s\n' '}' '' 'fn main() {}'
-    } >"$work/main.rt"
-    "$front" "$work/main.rt" "${words[@]}" >"$work/mir" 2>"$work/errors"
+    } >"$turn/src/main.rt"
+    (cd "$turn" && rt try </dev/null) >"$work/errors" 2>&1
 }
 
 compiles() { # NAME LINES...
