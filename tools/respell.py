@@ -16,7 +16,7 @@ DRY = "--dry" in sys.argv
 IDENT = r"[^\s(){}\[\];,.|`\"]+"
 HYPHENED = re.compile(r"^[^\W\d_](?:[\w'₀-₉]|-(?=[\w]))*-[\w'₀-₉]+$")
 # garbled by an earlier script, which took them for the library's names
-GARBLED = {"put-Meets": "put_meets", "at_least_lem": "at_least", "step_of_lem": "step_of", "has_getD": "has_get_or"}
+GARBLED = {"put-Meets": "put_meets", "at_least_lem": "at_least", "step_of_lem": "step_of", "has_get_d": "has_get_or", "kind-getD": "kind_get_or"}
 MADE = re.compile(r"\.(Goals|Given)(\.|$)|\.specs\.(declared|contracts)\.")
 
 

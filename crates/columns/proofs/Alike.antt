@@ -8,7 +8,7 @@ use Rattle.model.specs.ColumnSets.{has}
 use Rattle.model.specs.Sorts.{agrees}
 use Rattle.cells.specs.declared.values.Cell.{Cell}
 use Rattle.cells.specs.Held.{value}
-use Rattle.columns.proofs.Places.{has_get_d, has_past}
+use Rattle.columns.proofs.Places.{has_get_or, has_past}
 
 cell_tail : (t : Tuple) (i : ℕ) → cell (tail t) i ≡ cell t (suc i)
 cell_tail [] i = refl
@@ -47,11 +47,11 @@ pub agrees_below : (X : List Bool) (w n : ℕ) (s t : Tuple) → length X ≤ n 
 agrees_below X w n s t le f =
     agrees_at (take w X) s t (λ i h.
     ⊎_elim
-    (λ lt. ⊎_elim (λ below. f i below lt (has_get_d X i ∙ sym (has_take X w i lt) ∙ h)) (λ past. absurd (false≢true (sym (has_past X i (omega arith)) ∙ sym (has_take X w i lt) ∙ h))) (cases_lt i n))
+    (λ lt. ⊎_elim (λ below. f i below lt (has_get_or X i ∙ sym (has_take X w i lt) ∙ h)) (λ past. absurd (false≢true (sym (has_past X i (omega arith)) ∙ sym (has_take X w i lt) ∙ h))) (cases_lt i n))
     (λ ge. absurd (false≢true (sym (has_beyond X w i ge) ∙ h))) (cases_lt i w))
 
 pub differs_below : (X : List Bool) (w i : ℕ) (s t : Tuple) → i < w → get_or X i false ≡ true → same_value (cell s i) (cell t i) ≡ false → agrees (take w X) s t ≡ false
-differs_below X w i s t lt h g = differs_at (take w X) s t i (has_take X w i lt ∙ sym (has_get_d X i) ∙ h) g
+differs_below X w i s t lt h g = differs_at (take w X) s t i (has_take X w i lt ∙ sym (has_get_or X i) ∙ h) g
 
 -- the value at a place of a row
 pub cell_there : (l : List Cell) (i : ℕ) (x : Cell) → i < length l → x ≡ get_or l i x → cell (map value l) i ≡ value x

@@ -6,10 +6,10 @@ use Rattle.std.proofs.lemmas.List.{append-nil, set-get_or, take_all, drop_all}
 use Rattle.model.specs.Values.{tail}
 use Rattle.model.specs.ColumnSets.{has, within, apart, non_empty, union}
 
-pub has_get_d : (X : List Bool) (i : ℕ) → get_or X i false ≡ has X i
-has_get_d [] i = refl
-has_get_d (b ∷ X) zero = refl
-has_get_d (b ∷ X) (suc i) = has_get_d X i
+pub has_get_or : (X : List Bool) (i : ℕ) → get_or X i false ≡ has X i
+has_get_or [] i = refl
+has_get_or (b ∷ X) zero = refl
+has_get_or (b ∷ X) (suc i) = has_get_or X i
 
 pub has_past : (X : List Bool) (i : ℕ) → length X ≤ i → has X i ≡ false
 has_past [] i h = refl
@@ -64,13 +64,13 @@ below_or_past : (X : List Bool) (n : ℕ) (P : ℕ → Type 0) → length X ≤ 
 below_or_past X n P le f k h = ⊎_elim (λ lt. f k lt h) (λ ge. absurd (false≢true (sym (has_past X k (omega arith)) ∙ h))) (cases_lt k n)
 
 pub empty_below : (X : List Bool) (n : ℕ) → length X ≤ n → ((k : ℕ) → k < n → get_or X k false ≡ false) → non_empty X ≡ false
-empty_below X n le f = empty_at X (λ i. ⊎_elim (λ lt. sym (has_get_d X i) ∙ f i lt) (λ ge. has_past X i (omega arith)) (cases_lt i n))
+empty_below X n le f = empty_at X (λ i. ⊎_elim (λ lt. sym (has_get_or X i) ∙ f i lt) (λ ge. has_past X i (omega arith)) (cases_lt i n))
 
 pub within_below : (X Y : List Bool) (n : ℕ) → length X ≤ n → ((k : ℕ) → k < n → get_or X k false ≡ true → get_or Y k false ≡ true) → within X Y ≡ true
-within_below X Y n le f = within_at X Y (below_or_past X n (λ k. has Y k ≡ true) le (λ k lt h. sym (has_get_d Y k) ∙ f k lt (has_get_d X k ∙ h)))
+within_below X Y n le f = within_at X Y (below_or_past X n (λ k. has Y k ≡ true) le (λ k lt h. sym (has_get_or Y k) ∙ f k lt (has_get_or X k ∙ h)))
 
 pub apart_below : (X Y : List Bool) (n : ℕ) → length X ≤ n → ((k : ℕ) → k < n → get_or X k false ≡ true → get_or Y k false ≡ false) → apart X Y ≡ true
-apart_below X Y n le f = apart_at X Y (below_or_past X n (λ k. has Y k ≡ false) le (λ k lt h. sym (has_get_d Y k) ∙ f k lt (has_get_d X k ∙ h)))
+apart_below X Y n le f = apart_at X Y (below_or_past X n (λ k. has Y k ≡ false) le (λ k lt h. sym (has_get_or Y k) ∙ f k lt (has_get_or X k ∙ h)))
 
 -- a union as it is made from place to place
 pub union_next : (X Y : List Bool) (i : ℕ) → i < length X → i < length Y →
@@ -97,14 +97,14 @@ or_false false = refl
 pub union_set : (X Y Z W : List Bool) (i : ℕ) → i < length X → i < length Y → Z ≡ union (take i X) (take i Y) ++ drop i X → get_or Y i false ≡ true → W ≡ set Z i true →
     W ≡ union (take (i + 1) X) (take (i + 1) Y) ++ drop (i + 1) X
 union_set X Y Z W i h g e t w =
-    w ∙ ap₂ (λ l b. set l i b) e (sym (ap (λ b. has X i || b) (sym (has_get_d Y i) ∙ t) ∙ or_true (has X i)))
+    w ∙ ap₂ (λ l b. set l i b) e (sym (ap (λ b. has X i || b) (sym (has_get_or Y i) ∙ t) ∙ or_true (has X i)))
     ∙ sym (union_next X Y i h g) ∙ ap (λ j. union (take j X) (take j Y) ++ drop j X) (sym (add-one i))
 
 pub union_left : (X Y Z : List Bool) (i : ℕ) → i < length X → i < length Y → Z ≡ union (take i X) (take i Y) ++ drop i X → get_or Y i false ≡ false →
     Z ≡ union (take (i + 1) X) (take (i + 1) Y) ++ drop (i + 1) X
 union_left X Y Z i h g e t =
     let U : List Bool = union (take i X) (take i Y) ++ drop i X in
-    e ∙ sym (set-get_or U i false) ∙ ap (set U i) (union_at X Y i h g ∙ sym (ap (λ b. has X i || b) (sym (has_get_d Y i) ∙ t) ∙ or_false (has X i)))
+    e ∙ sym (set-get_or U i false) ∙ ap (set U i) (union_at X Y i h g ∙ sym (ap (λ b. has X i || b) (sym (has_get_or Y i) ∙ t) ∙ or_false (has X i)))
     ∙ sym (union_next X Y i h g) ∙ ap (λ j. union (take j X) (take j Y) ++ drop j X) (sym (add-one i))
 
 pub union_all : (X Y Z : List Bool) (i : ℕ) → length X ≤ i → length Y ≤ i → Z ≡ union (take i X) (take i Y) ++ drop i X → Z ≡ union X Y

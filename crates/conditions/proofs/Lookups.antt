@@ -56,10 +56,10 @@ kind_lookup : (C : List Column) (w : List ℕ) → kind_named C w ≡ kind_at C 
 kind_lookup [] w = refl
 kind_lookup (c ∷ C) w = ap (cond (same_bytes c.word w) (Some c.kind)) (kind_lookup C w) ∙ kind_next c C (same_bytes c.word w) (lookup C w)
 
-kind_getD : (C : List Column) (i : ℕ) (d : Column) → i < length C → kind_at C (Some i) ≡ Some (get_or C i d).kind
-kind_getD [] i d h = absurd (let z : ⊥ = omega arith in z)
-kind_getD (c ∷ C) zero d h = refl
-kind_getD (c ∷ C) (suc i) d h = kind_getD C i d (omega arith)
+kind_get_or : (C : List Column) (i : ℕ) (d : Column) → i < length C → kind_at C (Some i) ≡ Some (get_or C i d).kind
+kind_get_or [] i d h = absurd (let z : ⊥ = omega arith in z)
+kind_get_or (c ∷ C) zero d h = refl
+kind_get_or (c ∷ C) (suc i) d h = kind_get_or C i d (omega arith)
 
 -- a place that is found is one of the list's
 abbrev In : ℕ → Option ℕ → Type 0
@@ -91,7 +91,7 @@ module _ (xs : List program.Column) (w : List ℕ) where
       let lt : i < length xs = found_within i e in
       let short : i < length (first_eight xs) = simp (length-take, length-map) (omega arith) in
       ap (λ c. Some c.kind) (sym (get_or-take 8 (named_columns xs) i (named_column x) h ∙ get_or-map named_column xs i x (named_column x) lt))
-      ∙ sym (kind_getD (first_eight xs) i (named_column x) short) ∙ ap (kind_at (first_eight xs)) (some_place i e h)
+      ∙ sym (kind_get_or (first_eight xs) i (named_column x) short) ∙ ap (kind_at (first_eight xs)) (some_place i e h)
       ∙ sym (kind_lookup (first_eight xs) w)
 
 -- a table's columns are all looked through

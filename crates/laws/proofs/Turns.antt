@@ -41,7 +41,7 @@ pub root_or_not : (D : List Dependency) → TreeForm D → (d : Dependency) → 
     ((e : Dependency) × (e ∈ D) × Same e.right d.left) ⊎ ((e : Dependency) → e ∈ D → Apart e.right d.left)
 root_or_not D T d h = right_or_apart D D d.left (λ e g. T.equal_or_apart e.right d.left (in_sets_right D e g) (in_sets_left D d h))
 
--- `lead-first` rearranges
+-- `lead_first` rearranges
 in_front : (d : Dependency) (l : List Dependency) (x : Dependency) → (x ≡ d) ⊎ (x ∈ l) → x ∈ after_first d l
 in_front d [] x h = h
 in_front d (e ∷ l) x (inl p) = inr (inl p)
