@@ -8,50 +8,36 @@ ghost use Rattle.derivations.specs.Refused.{RefusedExactly};
 ghost use Rattle.derivations.specs.StepsSoFar.{StepsSoFar};
 
 /// A text is read without fault exactly when the grammar derives it, and as what it says.
-pub fn conditions_derive() -> u8
+pub fn conditions_derive()
     ensures { ConditionAccepted }
-{
-    0
-}
+{}
 
 /// The same for definitions.
-pub fn definitions_derive() -> u8
+pub fn definitions_derive()
     ensures { DefinitionAccepted }
-{
-    0
-}
+{}
 
 /// No signs have two readings.
-pub fn one_reading() -> u8
+pub fn one_reading()
     ensures { OneReading }
-{
-    0
-}
+{}
 
 /// A text is refused with a fault exactly when the fault is due.
-pub fn refusals_due() -> u8
+pub fn refusals_due()
     ensures { RefusedExactly }
-{
-    0
-}
+{}
 
 /// The parts of a condition are the negs of its conj; a condition with an `or` at its top is one part.
-pub fn parts_stand() -> u8
+pub fn parts_stand()
     ensures { PartsRule }
-{
-    0
-}
+{}
 
 /// Where reading a definition stops, the steps that it gives are the first of every definition that begins so.
-pub fn steps_so_far() -> u8
+pub fn steps_so_far()
     ensures { StepsSoFar }
-{
-    0
-}
+{}
 
 /// The worked examples.
-pub fn examples_stand() -> u8
+pub fn examples_stand()
     ensures { Examples }
-{
-    0
-}
+{}

@@ -1,5 +1,6 @@
 -- The signs of a text, each with its place: the number of bytes before it.
 use Rattle.std.specs.Prelude.{ℕ, zero, suc, ◌+◌, ◌-◌, ◌*◌, Bool, false, cond, ◌&&◌, ◌||◌, List, [], ◌∷◌, length, drop, Some, None, codes, Option, ◌==◌, nat_le}
+use Rattle.model.specs.Values as values
 use Rattle.model.specs.Values.{find, same_bytes}
 use Rattle.model.specs.Words.{is_letter}
 use Rattle.model.specs.Sorts.{is_text_byte}
@@ -41,8 +42,7 @@ at p s = record { sign = s; place = p }
 
 -- the longest front whose members all pass a test
 abbrev pub front : {A : Type 0} → (A → Bool) → List A → List A
-front p [] = []
-front p (a ∷ l) = cond (p a) (a ∷ front p l) []
+front = values.front
 
 abbrev pub is_digit : ℕ → Bool
 is_digit b = nat_le 0x30 b && nat_le b 0x39

@@ -16,134 +16,96 @@ ghost use Rattle.laws.specs.Sorts.{LookupRight, MeetsTest, SetsTest};
 ghost use Rattle.laws.specs.Views.{OneViewAlike, OneViewEquivalence, ViewsStand};
 
 /// The order of the rules is total, and tuples are totally ordered where values are.
-pub fn orders_stand() -> u8
+pub fn orders_stand()
     ensures { ByBytesTotal × TuplesTotal }
-{
-    0
-}
+{}
 
 /// The relation of some tuples is the one ascending relation with just these.
-pub fn relations_stand() -> u8
+pub fn relations_stand()
     ensures { RelationExact × RelationUnique × RelationSame }
-{
-    0
-}
+{}
 
 /// The tests of equality, of column sets and of meeting a sort say what they test.
-pub fn tests_stand() -> u8
+pub fn tests_stand()
     ensures { EqualityTest × SetsTest × MeetsTest }
-{
-    0
-}
+{}
 
 /// A column asked for by its word is answered by its place, or by none.
-pub fn lookup_stands() -> u8
+pub fn lookup_stands()
     ensures { LookupRight }
-{
-    0
-}
+{}
 
 /// The closure is the least closed set, and what Armstrong's axioms derive, which are sound.
-pub fn closure_stands() -> u8
+pub fn closure_stands()
     ensures { ClosureIsLeast × ClosureDerives × ArmstrongSound }
-{
-    0
-}
+{}
 
 /// The test of tree form.
-pub fn tree_form_stands() -> u8
+pub fn tree_form_stands()
     ensures { TreeTest }
-{
-    0
-}
+{}
 
 /// A written condition compares by the order, reads what it names and is its parts together; a pick admits what is picked.
-pub fn conditions_stand() -> u8
+pub fn conditions_stand()
     ensures { ComparisonsExact × ReadsExact × PartsWhole × PickExact × PartEqual }
-{
-    0
-}
+{}
 
 /// Revision is what it is said to be, whatever the order of work, and there is one such tuple.
-pub fn revision_stands() -> u8
+pub fn revision_stands()
     ensures { RevisionCharacterised × RevisionUnique }
-{
-    0
-}
+{}
 
 /// A stored table is lawful.
-pub fn stored_stands() -> u8
+pub fn stored_stands()
     ensures { StoredLawful }
-{
-    0
-}
+{}
 
 /// Select on a lawful table is lawful, and a put through it leaves exactly the rows that it is said to.
-pub fn select_stands() -> u8
+pub fn select_stands()
     ensures { SelectLawful × SelectExact }
-{
-    0
-}
+{}
 
 /// Drop on a lawful table is lawful, and a put through it leaves exactly the rows that it is said to.
-pub fn drop_stands() -> u8
+pub fn drop_stands()
     ensures { DropLawful × DropExact }
-{
-    0
-}
+{}
 
 /// Rename on a lawful table is lawful.
-pub fn rename_stands() -> u8
+pub fn rename_stands()
     ensures { RenameLawful }
-{
-    0
-}
+{}
 
 /// Join of lawful tables is lawful, and a put through it leaves exactly the rows that it is said to.
-pub fn join_stands() -> u8
+pub fn join_stands()
     ensures { JoinLawful × JoinExact × PairsAscending }
-{
-    0
-}
+{}
 
 /// Every view is lawful on its tables, and openings of one view are alike.
-pub fn views_stand() -> u8
+pub fn views_stand()
     ensures { ViewsStand × OneViewEquivalence × OneViewAlike }
-{
-    0
-}
+{}
 
 /// The fault judged is the one that is due, none is where rows and rooms are right, and a fault below passes up.
-pub fn faults_stand() -> u8
+pub fn faults_stand()
     ensures { FaultsExact × JudgeDue × ShowExact × FaultsPassUp }
-{
-    0
-}
+{}
 
 /// A history whose every answer is the one due keeps the promise.
-pub fn promise_stands() -> u8
+pub fn promise_stands()
     ensures { PromiseKept × EveryPoint × EmptyBegins × Recording }
-{
-    0
-}
+{}
 
 /// The worked examples, computed; views that they speak of; and openings that are of one view.
-pub fn examples_stand() -> u8
+pub fn examples_stand()
     ensures { Examples × ViewsShown × OneViewShown }
-{
-    0
-}
+{}
 
 /// A layer opens exactly when its premises hold, and the limits.
-pub fn opening_stands() -> u8
+pub fn opening_stands()
     ensures { OpeningExact }
-{
-    0
-}
+{}
 
 /// Whether a layer's sort admits a tuple can be asked of the sorts below.
-pub fn layer_parts_stand() -> u8
+pub fn layer_parts_stand()
     ensures { AdmittedBelow }
-{
-    0
-}
+{}

@@ -1,5 +1,7 @@
 -- Values, tuples and relations, and equality of values.
-use Rattle.std.specs.Prelude.{◌≡◌, ℕ, zero, suc, Bool, true, false, cond, ◌&&◌, ◌||◌, ◌⊎◌, List, [], ◌∷◌, Some, None, Option, ◌==◌, nat_eq}
+use Rattle.std.specs.Prelude.{◌≡◌, ℕ, zero, suc, Bool, false, cond, ◌⊎◌, List, [], ◌∷◌, Option, ◌==◌, nat_eq}
+use Rattle.std.specs.Cmp.Lexicographic.{pointwise}
+use Rattle.std.specs.List as list
 
 infix 40 ◌∈◌
 -- A value is a number or a text, which is its bytes.
@@ -22,20 +24,25 @@ a ∈ (b ∷ l) = (a ≡ b) ⊎ (a ∈ l)
 
 -- the members that pass a test, the first that does, whether one or every one does
 abbrev pub filter : {A : Type 0} → (A → Bool) → List A → List A
-filter p [] = []
-filter p (a ∷ l) = cond (p a) (a ∷ filter p l) (filter p l)
+filter = list.filter
 
 abbrev pub find : {A : Type 0} → (A → Bool) → List A → Option A
-find p [] = None
-find p (a ∷ l) = cond (p a) (Some a) (find p l)
+find = list.find
 
 abbrev pub any : {A : Type 0} → (A → Bool) → List A → Bool
-any p [] = false
-any p (a ∷ l) = p a || any p l
+any = list.list_any
 
 abbrev pub every : {A : Type 0} → (A → Bool) → List A → Bool
-every p [] = true
-every p (a ∷ l) = p a && every p l
+every = list.list_all
+
+-- the longest front whose members all pass a test, and what stands behind it
+abbrev pub front : {A : Type 0} → (A → Bool) → List A → List A
+front p [] = []
+front p (a ∷ l) = cond (p a) (a ∷ front p l) []
+
+abbrev pub behind : {A : Type 0} → (A → Bool) → List A → List A
+behind p [] = []
+behind p (a ∷ l) = cond (p a) (behind p l) (a ∷ l)
 
 -- the list without its first element
 abbrev pub tail : {A : Type 0} → List A → List A
@@ -50,10 +57,7 @@ cell (v ∷ t) (suc i) = cell t i
 
 -- Equality as a test. No order of values has a part in it.
 abbrev pub same_list : {A : Type 0} → (A → A → Bool) → List A → List A → Bool
-same_list e [] [] = true
-same_list e [] (b ∷ t) = false
-same_list e (a ∷ s) [] = false
-same_list e (a ∷ s) (b ∷ t) = e a b && same_list e s t
+same_list = pointwise
 
 abbrev pub same_bytes : List ℕ → List ℕ → Bool
 same_bytes = same_list nat_eq
