@@ -1,7 +1,5 @@
 pub mod Copies
-pub mod Walks
 pub mod Sames
 pub mod Ordered
 pub mod Texts
 pub mod Prints
-pub mod Kinded

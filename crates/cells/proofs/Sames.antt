@@ -1,10 +1,9 @@
--- Tests of equality decide equality, and the derived equality of cells and rows is that of their values.
-use Rattle.std.proofs.Common.{◌≡◌, ℕ, Bool, true, ◌&&◌, List, [], ◌∷◌, map, vec_items, string_bytes, Decides, nat_eq, sym, refl, ap, ◌∙◌, ap₂, subst, true≢false, rules}
+-- The derived equality of cells and rows is that of their values.
+use Rattle.std.proofs.Common.{◌≡◌, ℕ, Bool, ◌&&◌, List, [], ◌∷◌, map, vec_items, string_bytes, Decides, nat_eq, refl, ◌∙◌, ap₂, rules}
 use Rattle.std.proofs.lemmas.Slice.Eq.{compares_Decides, slice_eq-Decides}
-use Rattle.std.proofs.lemmas.Bool.{and_from, and_parts, eqb-true, eq-eqb}
 use Rattle.std.specs.Bool.{one_answer}
 use Rattle.std.specs.Cmp.Lexicographic.{pointwise}
-use Rattle.model.specs.Values.{Value, num, text, Tuple, same_list, same_bytes, same_value, same_tuple}
+use Rattle.model.specs.Values.{same_list, same_bytes, same_value, same_tuple}
 use Rattle.cells.specs.Held.{value, tuple}
 use Rattle.cells.specs.declared.values.Cell.{Cell}
 use Rattle.cells.specs.declared.values.Cell.TheVariants.{Num, Text}
@@ -14,33 +13,6 @@ use Rattle.std.proofs.lemmas.Bool.Decides.{Decides-eqb}
 
 pub same_bytes_decides : (xs ys : List ℕ) → Decides (same_bytes xs ys) (xs ≡ ys)
 same_bytes_decides = compares_Decides same_bytes (search rules)
-
-module _ {A : Type 0} (e : A → A → Bool) (decides : (a b : A) → Decides (e a b) (a ≡ b)) where
-  list_true : (xs ys : List A) → same_list e xs ys ≡ true → xs ≡ ys
-  list_true [] [] h = refl
-  list_true [] (y ∷ ys) h = absurd (true≢false (sym h))
-  list_true (x ∷ xs) [] h = absurd (true≢false (sym h))
-  list_true (x ∷ xs) (y ∷ ys) h =
-      let parts = and_parts (e x y) (same_list e xs ys) h in
-      let head = (decides x y).0 parts.0 in
-      let rest = list_true xs ys parts.1 in
-      cc
-
-  list_itself : (xs : List A) → same_list e xs xs ≡ true
-  list_itself [] = refl
-  list_itself (x ∷ xs) = and_from (e x x) (same_list e xs xs) ((decides x x).1 refl) (list_itself xs)
-
-  pub same_list_decides : (xs ys : List A) → Decides (same_list e xs ys) (xs ≡ ys)
-  same_list_decides xs ys = (list_true xs ys, λ p. subst (λ l. same_list e xs l ≡ true) p (list_itself xs))
-
-pub same_value_decides : (v w : Value) → Decides (same_value v w) (v ≡ w)
-same_value_decides (num m) (num n) = (λ h. ap num (eqb-true m n h), λ p. eq-eqb m n (cc))
-same_value_decides (num m) (text t) = (λ h. absurd (true≢false (sym h)), λ p. cc)
-same_value_decides (text s) (num n) = (λ h. absurd (true≢false (sym h)), λ p. cc)
-same_value_decides (text s) (text t) = (λ h. ap text ((same_bytes_decides s t).0 h), λ p. (same_bytes_decides s t).1 (cc))
-
-pub same_tuple_decides : (s t : Tuple) → Decides (same_tuple s t) (s ≡ t)
-same_tuple_decides = same_list_decides same_value same_value_decides
 
 -- what `==` on slices of bytes answers
 pub matches_bytes : (xs ys : List ℕ) (r : Bool) → r ≡ pointwise nat_eq xs ys → r ≡ same_bytes xs ys

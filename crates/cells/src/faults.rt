@@ -1,17 +1,16 @@
 //! Faults, and the refusals that carry them.
-ghost use Rattle.std.specs.Prelude.{◌≡◌, Decides, nat_eq};
-ghost use Rattle.std.specs.Ordering.{on};
+ghost use Rattle.std.specs.Prelude.{◌≡◌, Decides};
+ghost use Rattle.cells.specs.Held.{kind_of};
+ghost use Rattle.cells.specs.declared.kinds.Kind.{Kind};
 ghost use Rattle.cells.specs.Numbered.{number};
 ghost use Rattle.cells.specs.declared.faults.Cause.{Cause};
 ghost use Rattle.cells.specs.declared.faults.Refusal.TheVariants.{Memory};
-ghost use Rattle.std.specs.Cmp.Rules.{comparing};
-ghost use Rattle.std.proofs.Common.{rules};
-ghost use Rattle.std.specs.Cmp as Keys;
 
+use crate::kinds::Kind;
 use std::alloc::{AllocError, AllocFailed};
 
 // What a call is refused for. Each cause has its number.
-#[derive(Clone, Copy, Eq, Debug)]
+#[derive(Clone, Copy, PartialEq, Eq, Debug)]
 pub enum Cause {
     // a sign that the grammar lacks there
     Grammar = 1,
@@ -73,23 +72,17 @@ impl Cause {
     }
 }
 
-impl PartialEq for Cause {
-    ghost eq = { on number nat_eq };
-
-    ghost laws = { Keys.partial_equiv_from_equiv (Prim.search (comparing, rules)) };
-
-    fn eq(&self, other: &Cause) -> bool
-        ensures decides { Decides result (self.now ≡ other.now) }
-        ensures same { result ≡ on number nat_eq self.now other.now }
-    {
-        self.number() == other.number()
-    }
-}
+// Two causes are equal exactly when they are one, and two kinds when they stand for one.
+pub fn equality_stands()
+    ensures causes { (a b : Cause) → Decides (⟦<Cause as PartialEq>⟧.eq a b) (a ≡ b) }
+    ensures kinds { (a b : Kind) → Decides (⟦<Kind as PartialEq>⟧.eq a b) (kind_of a ≡ kind_of b) }
+{}
 
 // A cause, the kind of the table that it was met in, and a place.
 #[derive(Clone, Copy, PartialEq, Eq, Debug)]
 pub struct Fault {
     pub cause: Cause,
+    // a number, since kinds of tables are open: an enum of those of today would ask more of callers
     pub kind: u8,
     pub place: usize,
 }

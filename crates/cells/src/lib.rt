@@ -8,10 +8,10 @@ mod rows;
 mod values;
 mod words;
 
-pub use faults::{Cause, Fault, Refusal, refused};
+pub use faults::{Cause, Fault, Refusal, equality_stands, refused};
 pub use kinds::Kind;
-pub use rows::{Row, copied_rows};
-pub use values::{Cell, GREATEST, is_text};
+pub use rows::{Row, clones_stand, copied_rows};
+pub use values::{Cell, GREATEST, is_text, is_text_byte};
 pub use words::Word;
 pub use words::spelling::{is_keyword, is_name, is_word};
 

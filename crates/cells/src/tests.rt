@@ -34,7 +34,7 @@ fn row(heap: Global, title: &[u8], number: u32) -> Result<Row, AllocError> {
 #[test]
 fn rows_in_order(rt: HostRuntime) -> Result<(), Fail> {
     let glass = row(rt.alloc(), b"Glass", 200)?;
-    let copy = glass.copied(rt.alloc())?;
+    let copy = glass.clone()?;
     assert!(rt; glass.is_same(&copy));
     assert!(rt; !glass.is_below(&copy));
     let next = row(rt.alloc(), b"Glass", 201)?;

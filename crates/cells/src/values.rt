@@ -12,12 +12,13 @@ use std::cmp::Ordering;
 pub const GREATEST: u32 = 268_435_455;
 
 // A cell as it is offered. Not each is a cell of a table: `is_of` tells.
-#[derive(PartialEq, Eq, PartialOrd, Ord, Debug, Drop)]
+#[derive(Clone, PartialEq, Eq, PartialOrd, Ord, Debug, Drop)]
 pub enum Cell {
     Num(u32),
     Text(String),
 }
 
+// `compare` and `is_same` are the derived comparisons, promised in the words of values, so that no caller owes a lemma.
 impl Cell {
     // Whether this is a cell of the kind.
     pub fn is_of(&self, kind: Kind) -> bool
@@ -27,15 +28,6 @@ impl Cell {
             (Kind::Num, Cell::Num(n)) => *n <= GREATEST,
             (Kind::Text, Cell::Text(s)) => is_text(s.as_bytes()),
             _ => false,
-        }
-    }
-
-    pub fn copied(&self) -> Result<Cell, AllocError>
-        ensures { IfOk result (λ c. value c ≡ value self.now) }
-    {
-        match self {
-            Cell::Num(n) => Ok(Cell::Num(*n)),
-            Cell::Text(s) => Ok(Cell::Text(s.clone()?)),
         }
     }
 
@@ -67,22 +59,18 @@ impl Cell {
 pub fn is_text(bytes: &[u8]) -> bool
     ensures { result ≡ is_text bytes.now }
 {
-    1 <= bytes.len() && bytes.len() <= 16 && all_text_bytes(bytes)
+    (1..=16).contains(&bytes.len()) && are_text_bytes(bytes)
 }
 
-fn all_text_bytes(bytes: &[u8]) -> bool
+fn are_text_bytes(bytes: &[u8]) -> bool
     ensures { result ≡ every is_text_byte bytes.now }
 {
-    for b in bytes {
-        if !is_text_byte(*b) {
-            return false;
-        }
-    }
-    true
+    bytes.iter().all(|b| is_text_byte(*b))
 }
 
-fn is_text_byte(b: u8) -> bool
+// The bytes from space to ~, but for the quote.
+pub fn is_text_byte(b: u8) -> bool
     ensures { result ≡ is_text_byte b }
 {
-    0x20 <= b && b <= 0x7E && b != 0x22
+    matches!(b, b' '..=b'~') && b != b'"'
 }

@@ -1,6 +1,6 @@
 //! What is a word, and how words are made and read.
 ghost use Rattle.std.specs.Prelude.{◌≡◌, IfOk};
-ghost use Rattle.model.specs.Values.{every, same_bytes};
+ghost use Rattle.model.specs.Values.{any, every, same_bytes};
 ghost use Rattle.model.specs.Words.{is_keyword, is_letter, is_name, is_word};
 ghost use Rattle.cells.specs.Answering.{Answers};
 ghost use Rattle.cells.specs.Worded.{letters, name_fault};
@@ -39,10 +39,12 @@ impl Word {
     {
         self.text.as_str()
     }
+}
 
-    pub fn copied(&self) -> Result<Word, AllocError>
-        ensures { IfOk result (λ w. letters w ≡ letters self.now) }
-    {
+impl Clone for Word {
+    ghost is_clone = { λ w v. letters v ≡ letters w };
+
+    fn clone(&self) -> Result<Word, AllocError> {
         let text = self.text.clone()?;
         Ok(Word { text })
     }
@@ -59,27 +61,16 @@ pub fn is_name(bytes: &[u8]) -> bool
 pub fn is_word(bytes: &[u8]) -> bool
     ensures { result ≡ is_word bytes.now }
 {
-    1 <= bytes.len() && bytes.len() <= 12 && all_letters(bytes)
+    (1..=12).contains(&bytes.len()) && are_letters(bytes)
 }
 
-fn all_letters(bytes: &[u8]) -> bool
+fn are_letters(bytes: &[u8]) -> bool
     ensures { result ≡ every is_letter bytes.now }
 {
-    for b in bytes {
-        if !is_letter(*b) {
-            return false;
-        }
-    }
-    true
+    bytes.iter().all(|b| b.is_ascii_lowercase())
 }
 
-fn is_letter(b: u8) -> bool
-    ensures { result ≡ is_letter b }
-{
-    b'a' <= b && b <= b'z'
-}
-
-// The words that the grammar of definitions keeps for itself.
+// The words that the grammar of definitions keeps for itself, as a list: what a keyword means is the reader's.
 const KEYWORDS: [&str; 9] = [
     "and", "as", "default", "drop", "join", "not", "or", "rename", "select",
 ];
@@ -87,10 +78,11 @@ const KEYWORDS: [&str; 9] = [
 pub fn is_keyword(bytes: &[u8]) -> bool
     ensures { result ≡ is_keyword bytes.now }
 {
-    for word in KEYWORDS {
-        if bytes == word.as_bytes() {
-            return true;
-        }
-    }
-    false
+    is_among(bytes, &KEYWORDS)
+}
+
+fn is_among(bytes: &[u8], words: &[&str]) -> bool
+    ensures { result ≡ any (λ w. same_bytes bytes.now w.now) words.now }
+{
+    words.iter().any(|word| bytes == word.as_bytes())
 }
