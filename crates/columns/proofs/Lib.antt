@@ -1,5 +1,5 @@
 pub mod Places
-pub mod Folds
+pub mod Chains
 pub mod Trees
 pub mod Lookups
 pub mod Alike

@@ -1,4 +1,4 @@
-// When rows agree on a set of columns.
+//! When rows agree on a set of columns.
 ghost use Rattle.std.specs.Prelude.{◌≡◌, take};
 ghost use Rattle.model.specs.Values.{cell, same_value};
 ghost use Rattle.model.specs.Sorts.{agrees};
@@ -12,12 +12,10 @@ use cells::{Cell, Row};
 fn same_at(s: &Row, t: &Row, place: usize) -> bool
     ensures { result ≡ same_value (cell (tuple s.now) place) (cell (tuple t.now) place) }
 {
-    match (s.cells.get(place), t.cells.get(place)) {
-        (Some(a), Some(b)) => a.is_same(b),
-        (Some(a), None) => a.is_same(&Cell::Num(0)),
-        (None, Some(b)) => Cell::Num(0).is_same(b),
-        (None, None) => true,
-    }
+    let zero = Cell::Num(0);
+    let a = s.cells.get(place).unwrap_or(&zero);
+    let b = t.cells.get(place).unwrap_or(&zero);
+    a.is_same(b)
 }
 
 impl ColumnSet {
@@ -25,11 +23,10 @@ impl ColumnSet {
     pub fn agrees(&self, width: usize, s: &Row, t: &Row) -> bool
         ensures { result ≡ agrees (take width (members self.now)) (tuple s.now) (tuple t.now) }
     {
-        for i in 0..8 {
-            if i < width && self.places[i] && !same_at(s, t, i) {
-                return false;
-            }
-        }
-        true
+        self.places
+            .iter()
+            .take(width)
+            .enumerate()
+            .all(|(i, is_in)| !*is_in || same_at(s, t, i))
     }
 }

@@ -1,4 +1,4 @@
-// Columns, and the place of the one with a word.
+//! Columns, and the place of the one with a word.
 ghost use Rattle.std.specs.Prelude.{◌≡◌};
 ghost use Rattle.model.specs.Sorts.{lookup};
 ghost use Rattle.columns.specs.Named.{named_columns};
@@ -15,10 +15,5 @@ pub struct Column {
 pub fn place_of(columns: &[Column], word: &[u8]) -> Option<usize>
     ensures { result ≡ lookup (named_columns columns.now) word.now }
 {
-    for (i, column) in columns.iter().enumerate() {
-        if column.word.is(word) {
-            return Some(i);
-        }
-    }
-    None
+    columns.iter().position(|column| column.word.is(word))
 }

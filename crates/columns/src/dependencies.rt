@@ -1,7 +1,7 @@
-// Functional dependencies: closure, tree form and the order in which they are worked.
-ghost use Rattle.std.specs.Prelude.{◌≡◌, ◌<◌, not, ◌&&◌, length, IfOk};
+//! Functional dependencies: closure, tree form and the order in which they are worked.
+ghost use Rattle.std.specs.Prelude.{◌≡◌, ◌<◌, not, ◌&&◌, if◌then◌else◌, length, IfOk};
 ghost use Rattle.model.specs.Values.{any, every};
-ghost use Rattle.model.specs.ColumnSets.{same};
+ghost use Rattle.model.specs.ColumnSets.{same, union, within};
 ghost use Rattle.model.specs.Closures.{grow, closure};
 ghost use Rattle.model.specs.TreeForm.{sets, leads_off, in_order, right_once, arranged, tree_form};
 ghost use Rattle.columns.specs.Members.{members, dependency, dependencies, near, Leader};
@@ -10,18 +10,29 @@ use crate::set::ColumnSet;
 use std::alloc::{AllocError, Global};
 
 // Any two rows that agree on the left set agree on the right set.
-#[derive(Clone, Copy, Debug)]
+#[derive(Clone, Copy, PartialEq, Eq, Debug)]
 pub struct Dependency {
     pub left: ColumnSet,
     pub right: ColumnSet,
 }
 
 impl Dependency {
-    // Whether the two have the same left and the same right set.
+    // Whether the two have the same left and the same right set: the derived `==`, promised in the words of sets.
     pub fn is_same(&self, other: &Dependency) -> bool
         ensures { result ≡ (same (members self.now.left) (members other.now.left) && same (members self.now.right) (members other.now.right)) }
     {
-        self.left.is_same(&other.left) && self.right.is_same(&other.right)
+        self == other
+    }
+
+    // The set, with the right set if it holds the left set.
+    fn applied_to(&self, set: ColumnSet) -> ColumnSet
+        ensures { members result ≡ (if within (members self.now.left) (members set) then union (members set) (members self.now.right) else members set) }
+    {
+        if self.left.is_within(&set) {
+            set.union(&self.right)
+        } else {
+            set
+        }
     }
 }
 
@@ -29,37 +40,29 @@ impl Dependency {
 fn grow(deps: &[Dependency], set: ColumnSet) -> ColumnSet
     ensures { members result ≡ grow (dependencies deps.now) (members set) }
 {
-    let mut all = set;
-    for i in (0..deps.len()).rev() {
-        let d = deps[i];
-        if d.left.is_within(&all) {
-            all = all.union(&d.right);
-        }
-    }
-    all
+    deps.iter().rev().fold(set, |all, d| d.applied_to(all))
 }
 
-// The least set that holds the given one and, with a whole left set, also its right set.
+// The least set that holds the given one and, with a whole left set, also its right set. As many turns as there are
+// dependencies reach it.
 pub fn closure(deps: &[Dependency], set: ColumnSet) -> ColumnSet
     ensures { members result ≡ closure (dependencies deps.now) (members set) }
 {
-    let mut all = set;
-    for turn in 0..deps.len() {
-        all = grow(deps, all);
-    }
-    all
+    deps.iter().fold(set, |all, _| grow(deps, all))
+}
+
+// Whether some dependency has x for its right set.
+fn has_right(deps: &[Dependency], x: &ColumnSet) -> bool
+    ensures { result ≡ any (λ e. same (members x.now) e.right) (dependencies deps.now) }
+{
+    deps.iter().any(|e| x.is_same(&e.right))
 }
 
 // Whether no dependency has the left set of d for its right set.
 fn leads_off(deps: &[Dependency], d: &Dependency) -> bool
     ensures { result ≡ leads_off (dependencies deps.now) (dependency d.now) }
 {
-    for e in deps {
-        if e.right.is_same(&d.left) {
-            return false;
-        }
-    }
-    true
+    !has_right(deps, &d.left)
 }
 
 // The place of the first dependency that leads off, or else of the last.
@@ -68,12 +71,9 @@ fn leader(deps: &[Dependency]) -> usize
     ensures within { result < length deps.now }
     ensures leads { Leader deps.now result }
 {
-    for i in 0..deps.len() {
-        if leads_off(deps, &deps[i]) {
-            return i;
-        }
-    }
-    deps.len() - 1
+    deps.iter()
+        .position(|d| leads_off(deps, d))
+        .unwrap_or(deps.len() - 1)
 }
 
 // The dependencies, each after the one whose right set is its left set.
@@ -90,88 +90,41 @@ pub fn in_order(heap: Global, deps: &[Dependency]) -> Result<Vec<Dependency>, Al
     Ok(ordered)
 }
 
-fn is_near(x: &ColumnSet, y: &ColumnSet) -> bool
-    ensures { result ≡ near (members x.now) (members y.now) }
-{
-    x.is_same(y) || x.is_apart(y)
-}
-
-// Whether the set is equal to or disjoint with each of the dependency's two.
-fn is_near_both(x: &ColumnSet, d: &Dependency) -> bool
-    ensures { result ≡ (near (members x.now) (members d.now.left) && near (members x.now) (members d.now.right)) }
-{
-    is_near(x, &d.left) && is_near(x, &d.right)
-}
-
-// Whether the set is equal to or disjoint with each set of the dependencies.
-fn is_near_all(x: &ColumnSet, deps: &[Dependency]) -> bool
+// Whether each set of the dependencies is equal to or disjoint with x.
+fn are_all_near(deps: &[Dependency], x: &ColumnSet) -> bool
     ensures { result ≡ every (near (members x.now)) (sets (dependencies deps.now)) }
 {
-    for d in deps {
-        if !is_near_both(x, d) {
-            return false;
-        }
-    }
-    true
+    deps.iter()
+        .all(|d| x.is_near(&d.left) && x.is_near(&d.right))
 }
 
-// Whether both sets of d are.
-fn are_near_all(d: &Dependency, deps: &[Dependency]) -> bool
-    ensures { result ≡ (every (near (members d.now.left)) (sets (dependencies deps.now)) && every (near (members d.now.right)) (sets (dependencies deps.now))) }
-{
-    is_near_all(&d.left, deps) && is_near_all(&d.right, deps)
-}
-
-// Whether any two of the sets are equal or disjoint.
+// Whether any two sets of the dependencies are equal or disjoint.
 fn are_near(deps: &[Dependency]) -> bool
     ensures { result ≡ every (λ X. every (near X) (sets (dependencies deps.now))) (sets (dependencies deps.now)) }
 {
-    for d in deps {
-        if !are_near_all(d, deps) {
-            return false;
-        }
-    }
-    true
-}
-
-// Whether no dependency has the set for its right set.
-fn is_no_right(x: &ColumnSet, deps: &[Dependency]) -> bool
-    ensures { result ≡ not (any (λ e. same (members x.now) e.right) (dependencies deps.now)) }
-{
-    for d in deps {
-        if x.is_same(&d.right) {
-            return false;
-        }
-    }
-    true
+    deps.iter().all(|d| are_all_near(deps, &d.left) && are_all_near(deps, &d.right))
 }
 
 // Whether no set is the right set of two dependencies.
 fn are_rights_once(deps: &[Dependency]) -> bool
     ensures { result ≡ right_once (dependencies deps.now) }
 {
-    for i in 0..deps.len() {
-        let d = deps[i];
-        if !is_no_right(&d.right, &deps[i + 1..]) {
-            return false;
-        }
-    }
-    true
+    deps.iter()
+        .enumerate()
+        .all(|(i, d)| !has_right(&deps[i + 1..], &d.right))
 }
 
-// Whether none from a dependency on has its left set for its right set.
+// Whether no left set is the right set of its own or a later dependency.
 fn is_arranged(deps: &[Dependency]) -> bool
     ensures { result ≡ arranged (dependencies deps.now) }
 {
-    for i in 0..deps.len() {
-        if !leads_off(&deps[i..], &deps[i]) {
-            return false;
-        }
-    }
-    true
+    deps.iter()
+        .enumerate()
+        .all(|(i, d)| leads_off(&deps[i..], d))
 }
 
-// Whether the dependencies have tree form.
+// Whether the dependencies have tree form: any two sets are equal or disjoint, no set is the right set of two
+// dependencies, and following left to right never returns to a set.
 pub fn has_tree_form(heap: Global, deps: &[Dependency]) -> Result<bool, AllocError>
     ensures { IfOk result (λ b. b ≡ tree_form (dependencies deps.now)) }
 {

@@ -1,7 +1,7 @@
-// What sets of columns have and how they compare.
+//! What sets of columns have and how they compare.
 ghost use Rattle.std.specs.Prelude.{◌≡◌, Bool, true, false, length, set, replicate, slice_set};
 ghost use Rattle.model.specs.ColumnSets.{has, within, same, apart, non_empty, union};
-ghost use Rattle.columns.specs.Members.{members};
+ghost use Rattle.columns.specs.Members.{members, near};
 
 use crate::set::ColumnSet;
 
@@ -17,7 +17,7 @@ impl ColumnSet {
         ensures { members result ≡ slice_set (members self) place true }
     {
         let mut places = self.places;
-        if place < 8 {
+        if place < places.len() {
             places[place] = true;
         }
         ColumnSet { places }
@@ -27,62 +27,55 @@ impl ColumnSet {
     pub fn has(&self, place: usize) -> bool
         ensures { result ≡ has (members self.now) place }
     {
-        place < 8 && self.places[place]
+        self.places.get(place).is_some_and(|is_in| *is_in)
     }
 
     // Whether some column is in the set.
     pub fn has_some(&self) -> bool
         ensures { result ≡ non_empty (members self.now) }
     {
-        for i in 0..8 {
-            if self.places[i] {
-                return true;
-            }
-        }
-        false
+        self.places.iter().any(|is_in| *is_in)
     }
 
     // Whether every column of this set is in the other.
     pub fn is_within(&self, other: &ColumnSet) -> bool
         ensures { result ≡ within (members self.now) (members other.now) }
     {
-        for i in 0..8 {
-            if self.places[i] && !other.places[i] {
-                return false;
-            }
-        }
-        true
+        self.places
+            .iter()
+            .zip(&other.places)
+            .all(|(mine, theirs)| !*mine || *theirs)
     }
 
-    // Whether the two sets have the same columns.
+    // Whether the two sets have the same columns: the derived `==`, promised in the words of sets.
     pub fn is_same(&self, other: &ColumnSet) -> bool
         ensures { result ≡ same (members self.now) (members other.now) }
     {
-        self.is_within(other) && other.is_within(self)
+        self == other
     }
 
     // Whether no column is in both sets.
     pub fn is_apart(&self, other: &ColumnSet) -> bool
         ensures { result ≡ apart (members self.now) (members other.now) }
     {
-        for i in 0..8 {
-            if self.places[i] && other.places[i] {
-                return false;
-            }
-        }
-        true
+        self.places
+            .iter()
+            .zip(&other.places)
+            .all(|(mine, theirs)| !(*mine && *theirs))
+    }
+
+    // Whether the two sets are equal or disjoint.
+    pub(crate) fn is_near(&self, other: &ColumnSet) -> bool
+        ensures { result ≡ near (members self.now) (members other.now) }
+    {
+        self.is_same(other) || self.is_apart(other)
     }
 
     // The columns of either set.
     pub fn union(&self, other: &ColumnSet) -> ColumnSet
         ensures { members result ≡ union (members self.now) (members other.now) }
     {
-        let mut places = self.places;
-        for i in 0..8 {
-            if other.places[i] {
-                places[i] = true;
-            }
-        }
+        let places = std::array::from_fn(|i| self.places[i] || other.places[i]);
         ColumnSet { places }
     }
 }

@@ -1,12 +1,14 @@
-use Rattle.std.proofs.Common.{sym}
-use Rattle.columns.proofs.Lookups.{found_at, not_at, nowhere}
+use Rattle.std.proofs.Common.{◌∙◌, rules}
+use borrow.Author.Tests.{tests}
+use Rattle.std.proofs.lemmas.Iterator.{YieldsList-from_slice}
+use Rattle.std.proofs.lemmas.Iterator.Search.{position_from_yields_List}
+use Rattle.model.specs.Values.{same_bytes}
+use Rattle.cells.specs.Worded.{letters}
+use Rattle.columns.proofs.Lookups.{position_lookup}
 use Rattle.columns.proofs.column.place_of.Goals as goal
 
-pub returns-then-is : goal.returns-then-is
-returns-then-is c = found_at c.args.columns.now c.args.word.now c.loop-i.i c.index-columns-i.result c.loop-i-test.true c.index-columns-i.is (sym c.if-is.ensures) c.loop-i.invariant
-
-pub loop-i-preserved : goal.loop-i-preserved
-loop-i-preserved c = not_at c.args.columns.now c.args.word.now c.loop-i.i c.index-columns-i.result c.loop-i-test.true c.index-columns-i.is (sym c.if-is.ensures) c.loop-i.invariant
-
 pub returns : goal.returns
-returns c = nowhere c.args.columns.now c.args.word.now c.loop-i.i c.loop-i-test.false c.loop-i.invariant
+returns c =
+    let w = c.args.word.now in
+    position_from_yields_List (λ x. same_bytes (letters x.word) w) _ _ _ c.position.ensures.ran (YieldsList-from_slice c.args.columns.now cc) (λ x b q k. search (rules, tests))
+    ∙ position_lookup c.args.columns.now w

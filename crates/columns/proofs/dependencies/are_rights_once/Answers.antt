@@ -1,24 +1,13 @@
-use Rattle.std.proofs.Common.{◌+◌, Bool, not, List, sym, refl, ap, ◌∙◌}
-use Rattle.std.proofs.lemmas.List.{take_rest}
-use Rattle.model.specs.Values.{any}
-use Rattle.model.specs.ColumnSets.{same}
-use Rattle.model.specs.TreeForm.{right_once}
-use Rattle.columns.specs.declared.dependencies.Dependency.{Dependency}
-use Rattle.columns.specs.Members.{members, dependencies}
-use Rattle.columns.proofs.Folds.{and_stop, and_go, and_end}
+use Rattle.std.proofs.Common.{◌∙◌, rules}
+use borrow.Author.Tests.{tests}
+use Rattle.std.proofs.lemmas.Iterator.{YieldsList-from_slice}
+use Rattle.std.proofs.lemmas.Iterator.Consumers.{YieldsList-from_enumerate}
+use Rattle.std.proofs.lemmas.Iterator.Search.{all_from_yields_List}
+use Rattle.columns.proofs.Trees.{no_later_right, rights_once}
 use Rattle.columns.proofs.dependencies.are_rights_once.Goals as goal
 
-abbrev F : List Dependency → Bool
-F l = right_once (dependencies l)
-
-abbrev t : Dependency → List Dependency → Bool
-t x l = not (any (λ e. same (members x.right) e.right) (dependencies l))
-
-pub returns-then-not-is_no_right : goal.returns-then-not-is_no_right
-returns-then-not-is_no_right c = and_stop F t (λ x l. refl) c.args.deps.now c.loop-i.i c.index-deps-i.result c.loop-i-test.true c.index-deps-i.is (sym (c.if-not-is_no_right.ensures ∙ ap (λ l. not (any (λ e. same (members c.index-deps-i.result.right) e.right) (dependencies l))) (take_rest c.args.deps.now (c.loop-i.i + 1)))) c.loop-i.invariant
-
-pub loop-i-preserved : goal.loop-i-preserved
-loop-i-preserved c = and_go F t (λ x l. refl) c.args.deps.now c.loop-i.i c.index-deps-i.result c.loop-i-test.true c.index-deps-i.is (sym (c.if-not-is_no_right.ensures ∙ ap (λ l. not (any (λ e. same (members c.index-deps-i.result.right) e.right) (dependencies l))) (take_rest c.args.deps.now (c.loop-i.i + 1)))) c.loop-i.invariant
-
 pub returns : goal.returns
-returns c = and_end F c.args.deps.now c.loop-i.i refl c.loop-i-test.false c.loop-i.invariant
+returns c =
+    let D = c.args.deps.now in
+    all_from_yields_List (λ p. no_later_right D p.0 p.1) c.all.new.self _ _ c.all.ensures.ran (YieldsList-from_enumerate (YieldsList-from_slice D cc) cc) (λ x b q k. search (rules, tests))
+    ∙ rights_once D

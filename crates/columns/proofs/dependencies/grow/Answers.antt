@@ -1,22 +1,18 @@
-use Rattle.std.proofs.Common.{◌≡◌, ◌+◌, ◌-◌, drop, sym, ap, ◌∙◌, arith}
-use Rattle.std.proofs.lemmas.List.{at_drop_all}
+use Rattle.std.proofs.Common.{◌≡◌, reverse, refl, ap, ◌∙◌, rules}
+use borrow.Author.Tests.{tests}
+use Rattle.std.specs.Iterator.Adapters.{rev_steps}
+use Rattle.std.specs.Slice.Iter.{iter_steps_back}
+use Rattle.std.proofs.lemmas.Fn.{fold_over}
+use Rattle.std.proofs.lemmas.Iterator.Adapters.{YieldsList-from_rev_slice}
+use Rattle.std.proofs.lemmas.List.{reverse-reverse}
 use Rattle.model.specs.Closures.{grow}
 use Rattle.columns.specs.Members.{members, dependencies}
-use Rattle.columns.proofs.Trees.{grow_in, grow_out}
+use Rattle.columns.proofs.Trees.{grow_more}
 use Rattle.columns.proofs.dependencies.grow.Goals as goal
 
-pub loop-i-init : goal.loop-i-init
-loop-i-init c = sym (at_drop_all (λ l. grow (dependencies l) (members c.args.set)) c.args.deps.now _ (omega arith))
-
-pub loop-i-preserved-then-is_within : goal.loop-i-preserved-then-is_within
-loop-i-preserved-then-is_within c =
-    let e : c.loop-i.i ≡ c.loop-i.i - 1 + 1 = omega arith in
-    c.union-all.ensures
-    ∙ grow_in c.args.deps.now (c.loop-i.i - 1) c.index-deps-i.result (members c.args.set) (members c.loop-i.all) (omega arith) c.index-deps-i.is
-    (c.loop-i.invariant ∙ ap (λ k. grow (dependencies (drop k c.args.deps.now)) (members c.args.set)) e) (sym c.if-is_within.ensures)
-
-pub loop-i-preserved : goal.loop-i-preserved
-loop-i-preserved c =
-    let e : c.loop-i.i ≡ c.loop-i.i - 1 + 1 = omega arith in
-    grow_out c.args.deps.now (c.loop-i.i - 1) c.index-deps-i.result (members c.args.set) (members c.loop-i.all) (omega arith) c.index-deps-i.is
-    (c.loop-i.invariant ∙ ap (λ k. grow (dependencies (drop k c.args.deps.now)) (members c.args.set)) e) (sym c.if-is_within.ensures)
+pub returns : goal.returns
+returns c =
+    let Z = members c.args.set in
+    let yields = YieldsList-from_rev_slice {s = c.rev.result} c.args.deps.now cc in
+    fold_over (rev_steps iter_steps_back) (λ y. y.now) _ (λ ys a. members a ≡ grow (dependencies (reverse ys)) Z) _ (λ ys a x b q j k. (grow_more ys x.now Z (members a) (members b) j (search (rules, tests)), search (rules, tests))) c.rev.result _ _ _ yields.runs refl c.fold.ensures.ran
+    ∙ ap (λ l. grow (dependencies l) Z) (reverse-reverse c.args.deps.now)

@@ -1,24 +1,15 @@
-use Rattle.std.proofs.Common.{◌-◌, length, sym, ap, ◌∙◌, arith}
-use Rattle.std.proofs.lemmas.List.{get_or_read}
-use Rattle.model.specs.TreeForm.{leads_off}
+use Rattle.std.proofs.Common.{◌≡◌, ◌∷◌, get_or, subst, sym, rules, true, false}
+use borrow.Author.Tests.{tests}
+use Rattle.std.specs.List.{remove}
+use Rattle.std.proofs.lemmas.Iterator.{YieldsList-from_slice, IsFirst-from_position}
+use Rattle.model.specs.TreeForm.{lead_first}
 use Rattle.columns.specs.Members.{dependency, dependencies}
-use Rattle.columns.proofs.Trees.{led_at, led_last}
+use Rattle.columns.proofs.Trees.{leads, leader_at}
 use Rattle.columns.proofs.dependencies.leader.Goals as goal
 
-pub returns-then-leads_off : goal.returns-then-leads_off
-returns-then-leads_off c =
+pub returns-clause-leads : goal.returns-clause-leads
+returns-clause-leads c d =
     let l = c.args.deps.now in
-    let i = c.loop-i.i in
-    record {
-      within = c.loop-i-test.true;
-      leads = led_at (dependencies l) l i c.loop-i-test.true (λ k y g. c.loop-i.invariant k g y)
-          (λ y. ap (λ z. leads_off (dependencies l) (dependency z)) (sym (get_or_read l i c.index-deps-i.result c.loop-i-test.true c.index-deps-i.is y)) ∙ sym c.if-leads_off.ensures);
-    }
-
-pub returns : goal.returns
-returns c =
-    let l = c.args.deps.now in
-    record {
-      within = omega arith;
-      leads = led_last (dependencies l) l (length l - 1) (omega arith) (λ k y g. c.loop-i.invariant k (omega arith) y);
-    }
+    let D = dependencies l in
+    let first = IsFirst-from_position _ _ c.position.result (leads D true) (leads D false) c.position.ensures.ran (YieldsList-from_slice l cc) (λ x q k. search (rules, tests)) (λ x q k. search (rules, tests)) in
+    subst (λ i. lead_first D D ≡ dependency (get_or l i d) ∷ dependencies (remove l i)) (sym c.unwrap_or.ensures) (leader_at D l c.position.result c.requires first d)

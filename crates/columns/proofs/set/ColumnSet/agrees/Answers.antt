@@ -1,10 +1,18 @@
-use Rattle.std.proofs.Common.{sym, rules}
+use Rattle.std.proofs.Common.{◌||◌, not, take, ◌∙◌, rules}
+use borrow.Author.Tests.{tests}
+use Rattle.std.proofs.lemmas.Iterator.{YieldsList-from_slice, YieldsList-from_take}
+use Rattle.std.proofs.lemmas.Iterator.Consumers.{YieldsList-from_enumerate}
+use Rattle.std.proofs.lemmas.Iterator.Search.{all_from_yields_List}
+use Rattle.model.specs.Values.{cell, same_value}
 use Rattle.cells.specs.Held.{tuple}
-use Rattle.columns.proofs.Alike.{agrees_below, differs_below}
+use Rattle.columns.proofs.Alike.{all_agree}
 use Rattle.columns.proofs.set.ColumnSet.agrees.Goals as goal
 
-pub returns-then-not-same_at : goal.returns-then-not-same_at
-returns-then-not-same_at c = sym (differs_below c.args.self.now.places c.args.width c.loop-i.i (tuple c.args.s.now) (tuple c.args.t.now) c.if-i-width.true c.if-self-i.true (sym c.if-not-same_at.ensures))
-
 pub returns : goal.returns
-returns c = sym (agrees_below c.args.self.now.places c.args.width c.loop-i.i (tuple c.args.s.now) (tuple c.args.t.now) (search rules) c.loop-i.invariant)
+returns c =
+    let X = c.args.self.now.places in
+    let w = c.args.width in
+    let s = tuple c.args.s.now in
+    let t = tuple c.args.t.now in
+    all_from_yields_List (λ p. not p.1 || same_value (cell s p.0) (cell t p.0)) c.all.new.self _ _ c.all.ensures.ran (YieldsList-from_enumerate (YieldsList-from_take w (YieldsList-from_slice X cc) cc) cc) (λ x b q k. search (rules, tests))
+    ∙ all_agree (take w X) s t

@@ -1,9 +1,11 @@
-use Rattle.std.proofs.Common.{sym, ◌∙◌, rules}
-use Rattle.columns.proofs.Places.{has_get_or, non_empty_at, empty_below}
+use Rattle.std.proofs.Common.{◌∙◌, rules}
+use borrow.Author.Tests.{tests}
+use Rattle.std.proofs.lemmas.Iterator.{YieldsList-from_slice}
+use Rattle.std.proofs.lemmas.Iterator.Search.{any_from_yields_List}
+use Rattle.columns.proofs.Places.{any_member}
 use Rattle.columns.proofs.set.ColumnSet.has_some.Goals as goal
 
-pub returns-then-self-i : goal.returns-then-self-i
-returns-then-self-i c = sym (non_empty_at c.args.self.now.places c.loop-i.i (sym (has_get_or c.args.self.now.places c.loop-i.i) ∙ c.if-self-i.true))
-
 pub returns : goal.returns
-returns c = sym (empty_below c.args.self.now.places c.loop-i.i (search rules) c.loop-i.invariant)
+returns c =
+    let X = c.args.self.now.places in
+    any_from_yields_List (λ b. b) _ _ _ c.any.ensures.ran (YieldsList-from_slice X cc) (λ x b q k. search (rules, tests)) ∙ any_member X

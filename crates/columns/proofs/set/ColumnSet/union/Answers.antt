@@ -1,13 +1,12 @@
-use Rattle.std.proofs.Common.{rules}
-use Rattle.columns.proofs.Places.{union_set, union_left, union_all}
-use Rattle.columns.proofs.set.ColumnSet.union.Goals.{then-other-i, else-other-i}
+use Rattle.std.proofs.Common.{◌||◌, false, get_or, rules}
+use borrow.Author.Tests.{tests}
+use Rattle.columns.proofs.Places.{made_at, union_places}
 use Rattle.columns.proofs.set.ColumnSet.union.Goals as goal
 
-pub loop-i-preserved : goal.loop-i-preserved
-loop-i-preserved c = elim c.if-other-i.branch [
-  | then-other-i w ↦ (search (rules, union_set), search rules)
-  | else-other-i w ↦ (search (rules, union_left), search rules)
-]
-
 pub returns : goal.returns
-returns c = union_all c.args.self.now.places c.args.other.now.places c.loop-i.places c.loop-i.i (search rules) (search rules) c.loop-i.invariant.0
+returns c =
+    let X = c.args.self.now.places in
+    let Y = c.args.other.now.places in
+    let h = c.from_fn-places.ensures.items in
+    union_places X Y c.from_fn-places.result (search rules) (search rules)
+    (λ k l. made_at _ (λ i. get_or X i false || get_or Y i false) _ _ 0 8 (λ i y q e. search (rules, tests)) h.each k false (search rules) (search rules))
