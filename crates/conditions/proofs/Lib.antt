@@ -6,3 +6,4 @@ pub mod Mapped
 pub mod Parts
 pub mod Splitting
 pub mod Values
+pub mod Built

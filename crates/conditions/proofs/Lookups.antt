@@ -1,7 +1,7 @@
 -- A column by its word among the first ones, and its kind.
-use Rattle.std.proofs.Common.{◌≡◌, ℕ, zero, suc, ◌<◌, ◌≤◌, Bool, true, false, cond, ltb, List, [], ◌∷◌, length, get_or, take, Some, None, Option, sym, refl, ap, ◌∙◌, subst, arith}
+use Rattle.std.proofs.Common.{◌≡◌, ℕ, zero, suc, ◌<◌, Bool, true, false, cond, ltb, List, [], ◌∷◌, length, get_or, take, Some, None, Option, sym, refl, ap, ◌∙◌, subst, arith}
 use Rattle.std.specs.Option.{option_map}
-use Rattle.std.proofs.lemmas.List.{length-map, length-take, get_or-take, get_or-map, take_all}
+use Rattle.std.proofs.lemmas.List.{length-map, length-take, get_or-take, get_or-map}
 use Rattle.std.proofs.lemmas.Bool.{lt-ltb, le-ltb}
 use Rattle.std.proofs.lemmas.Bool.Decides.{nat_tests}
 use Rattle.model.specs.Values.{same_bytes}
@@ -83,7 +83,7 @@ module _ (xs : List program.Column) (w : List ℕ) where
   place_cut o e = ap (cut 8) e ∙ sym (lookup_take 8 (named_columns xs) w)
 
   -- one of the eight
-  pub some_place : (i : ℕ) → Some i ≡ lookup (named_columns xs) w → i < 8 → Some i ≡ lookup (first_eight xs) w
+  some_place : (i : ℕ) → Some i ≡ lookup (named_columns xs) w → i < 8 → Some i ≡ lookup (first_eight xs) w
   some_place i e h = sym (ap (λ b. cond b (Some i) None) (lt-ltb i 8 h)) ∙ place_cut (Some i) e
 
   pub some_kind : (i : ℕ) (x : program.Column) → Some i ≡ lookup (named_columns xs) w → i < 8 → Some (kind_of (get_or xs i x).kind) ≡ kind_named (first_eight xs) w
@@ -93,7 +93,3 @@ module _ (xs : List program.Column) (w : List ℕ) where
       ap (λ c. Some c.kind) (sym (get_or-take 8 (named_columns xs) i (named_column x) h ∙ get_or-map named_column xs i x (named_column x) lt))
       ∙ sym (kind_get_or (first_eight xs) i (named_column x) short) ∙ ap (kind_at (first_eight xs)) (some_place i e h)
       ∙ sym (kind_lookup (first_eight xs) w)
-
--- a table's columns are all looked through
-pub few_columns : (xs : List program.Column) → length xs ≤ 8 → first_eight xs ≡ named_columns xs
-few_columns xs h = take_all 8 (named_columns xs) (simp length-map (omega arith))

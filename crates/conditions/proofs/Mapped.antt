@@ -1,10 +1,6 @@
 -- Tests of the members of a list, as tests of what they stand for.
-use Rattle.std.proofs.Common.{◌≡◌, Bool, ◌&&◌, ◌||◌, List, [], ◌∷◌, map, refl, ap}
-use Rattle.model.specs.Values.{any, every}
-
-pub every_map : {A B : Type 0} (p : B → Bool) (f : A → B) (l : List A) → every (λ x. p (f x)) l ≡ every p (map f l)
-every_map p f [] = refl
-every_map p f (x ∷ l) = ap (λ b. p (f x) && b) (every_map p f l)
+use Rattle.std.proofs.Common.{◌≡◌, Bool, ◌||◌, List, [], ◌∷◌, map, refl, ap}
+use Rattle.model.specs.Values.{any}
 
 pub any_map : {A B : Type 0} (p : B → Bool) (f : A → B) (l : List A) → any (λ x. p (f x)) l ≡ any p (map f l)
 any_map p f [] = refl

@@ -25,21 +25,14 @@ pub trait Condition {
 pub fn admits_all<C: Condition>(parts: &[C], row: &Row) -> bool
     ensures { result ≡ admitted (map C.Condition.part parts.now) (tuple row.now) }
 {
-    for part in parts {
-        if !part.admits(row) {
-            return false;
-        }
-    }
-    true
+    parts.iter().all(|part| part.admits(row))
 }
 
 // The columns that some part reads.
 pub fn reads_all<C: Condition>(parts: &[C]) -> ColumnSet
     ensures { Reads (map C.Condition.part parts.now) (members result) }
 {
-    let mut all = ColumnSet::empty();
-    for part in parts {
-        all = all.union(&part.reads());
-    }
-    all
+    parts
+        .iter()
+        .fold(ColumnSet::empty(), |all, part| all.union(&part.reads()))
 }

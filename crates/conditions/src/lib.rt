@@ -10,13 +10,15 @@ mod settling;
 mod trees;
 mod truth;
 
+pub use building::building_stands;
+pub use either::Either;
 pub use interface::{Condition, admits_all, reads_all};
-pub use mixing::Either;
 pub use picking::Pick;
 pub use picking::choosing::{kind_of, picks_stand};
 pub use picking::placing::PickAt;
 pub use places::Place;
-pub use trees::{Comparison, Operand, Written};
+pub use settling::Scope;
+pub use trees::{Compared, Comparison, Formula, Operand, Written};
 
 #[cfg(test)]
 mod tests;

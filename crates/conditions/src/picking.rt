@@ -11,6 +11,7 @@ pub mod placing;
 // A column by its word, and 1 to 32 ascending cells of one kind.
 #[derive(Debug, Drop)]
 pub struct Pick {
+    // bytes and no `Word`, since it is only looked up, and may be no word at all
     word: Vec<u8>,
     cells: Vec<Cell>,
     ghost proper: { is_choice (map value cells.items) ≡ true },

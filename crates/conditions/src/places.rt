@@ -9,7 +9,7 @@ pub struct Place {
 }
 
 impl Place {
-    // A place from the ninth on is none.
+    // A place from the ninth on is none. (`then_some` would make the place before the test.)
     pub fn new(at: usize) -> Option<Place>
         ensures { MatchOption result (8 ≤ at) (λ p. p.at ≡ at) }
     {

@@ -1,19 +1,22 @@
-//! Comparisons by a table, and a pick from its making to a row.
-use crate::{Comparison, Condition, Operand, Pick, Place, Written};
+//! Comparisons by a table, a pick from its making to a row, and the clone of a word.
+use crate::{Compared, Comparison, Condition, Formula, Operand, Pick, Place, Scope};
 use cells::{Cell, Kind, Row, Word};
 use columns::Column;
 use std::alloc::{AllocError, Global};
 use std::test::Fail;
 
 // Whether 5 stands so to another number.
-fn five(heap: Global, comparison: Comparison, other: u32) -> Result<bool, AllocError> {
-    let mut cells = Vec::new(heap);
-    cells.push(Cell::Num(5))?;
-    let row = Row { cells };
-    let Some(place) = Place::new(0) else {
-        return Ok(false);
+fn five(heap: Global, comparison: Comparison, other: u32) -> Result<bool, Fail> {
+    let row = Row {
+        cells: vec![in heap; Cell::Num(5)]?,
     };
-    let written = Written::Compared(place, comparison, Operand::Cell(Cell::Num(other)));
+    let place = Place::new(0).ok_or_else(|| Fail::new("no place"))?;
+    let operand = Operand::Value(Cell::Num(other));
+    let written = Formula::Atom(Compared {
+        column: place,
+        comparison,
+        operand,
+    });
     Ok(written.admits(&row))
 }
 
@@ -37,10 +40,9 @@ fn comparisons(rt: HostRuntime) -> Result<(), Fail> {
 }
 
 fn texts(heap: Global, first: &str, second: &str) -> Result<Vec<Cell>, AllocError> {
-    let mut cells = Vec::new(heap);
-    cells.push(Cell::Text(String::from_str(heap, first)?))?;
-    cells.push(Cell::Text(String::from_str(heap, second)?))?;
-    Ok(cells)
+    let first = Cell::Text(String::from_str(heap, first)?);
+    let second = Cell::Text(String::from_str(heap, second)?);
+    Ok(vec![in heap; first, second]?)
 }
 
 #[test]
@@ -48,18 +50,23 @@ fn picks(rt: HostRuntime) -> Result<(), Fail> {
     let heap = rt.alloc();
     let turned = Pick::new(heap, b"bank", texts(heap, "Pads", "Bass")?);
     assert!(rt; turned.is_err());
-    let mut columns = Vec::new(heap);
-    columns.push(Column {
+    let title = Column {
         word: Word::new(heap, b"title")?,
         kind: Kind::Num,
-    })?;
-    columns.push(Column {
+    };
+    let bank = Column {
         word: Word::new(heap, b"bank")?,
         kind: Kind::Text,
-    })?;
+    };
+    let columns = vec![in heap; title, bank]?;
+    let scope = Scope {
+        columns: &columns,
+        kind: 3,
+        place: 0,
+    };
     let unknown = Pick::new(heap, b"author", texts(heap, "Bass", "Pads")?)?;
-    assert!(rt; unknown.at(&columns, 3, 0).is_err());
-    let pick = Pick::new(heap, b"bank", texts(heap, "Bass", "Pads")?)?.at(&columns, 3, 0)?;
+    assert!(rt; unknown.at(scope).is_err());
+    let pick = Pick::new(heap, b"bank", texts(heap, "Bass", "Pads")?)?.at(scope)?;
     let row = Row {
         cells: texts(heap, "Glass", "Pads")?,
     };
@@ -68,5 +75,13 @@ fn picks(rt: HostRuntime) -> Result<(), Fail> {
         cells: texts(heap, "Pads", "Keys")?,
     };
     assert!(rt; !pick.admits(&other));
+    Ok(())
+}
+
+#[test]
+fn cloned_word(rt: HostRuntime) -> Result<(), Fail> {
+    let title = Word::new(rt.alloc(), b"title")?;
+    let clone = title.clone()?;
+    assert!(rt; clone.is(b"title") && title.is(b"title"));
     Ok(())
 }

@@ -1,4 +1,4 @@
-//! Written conditions, with each column by its place.
+//! Formulas of comparisons, and written conditions, with each column by its place.
 use crate::places::Place;
 use cells::Cell;
 
@@ -13,19 +13,30 @@ pub enum Comparison {
     AtLeast,
 }
 
-// What a column is compared with: another column, or a cell.
+// What a column is compared with: another column, or a value.
+#[derive(Clone, Copy, Debug, Drop)]
+pub enum Operand<C, V> {
+    Column(C),
+    Value(V),
+}
+
+// A comparison of a column, by its place or by its word.
+#[derive(Clone, Copy, Debug, Drop)]
+pub struct Compared<C, V> {
+    pub column: C,
+    pub comparison: Comparison,
+    pub operand: Operand<C, V>,
+}
+
+// Atoms, and what not, brackets, and, or make of them.
 #[derive(Debug, Drop)]
-pub enum Operand {
-    Column(Place),
-    Cell(Cell),
+pub enum Formula<T> {
+    Atom(T),
+    Not(Box<Formula<T>>),
+    Bracket(Box<Formula<T>>),
+    And(Box<Formula<T>>, Box<Formula<T>>),
+    Or(Box<Formula<T>>, Box<Formula<T>>),
 }
 
 // A condition as it is written.
-#[derive(Debug, Drop)]
-pub enum Written {
-    Compared(Place, Comparison, Operand),
-    Not(Box<Written>),
-    Bracket(Box<Written>),
-    And(Box<Written>, Box<Written>),
-    Or(Box<Written>, Box<Written>),
-}
+pub type Written = Formula<Compared<Place, Cell>>;

@@ -1,15 +1,15 @@
 //! What written conditions read and admit.
 ghost use Rattle.std.specs.Prelude.{◌≡◌, slice_index_or};
 ghost use Rattle.model.specs.ColumnSets.{Same, singleton};
-ghost use Rattle.model.specs.Conditions.{compared, holds, admits_row, operand_reads, reads_of};
+ghost use Rattle.model.specs.Conditions.{holds, admits_row, operand_reads, reads_of};
 ghost use Rattle.model.specs.Orders.{by_bytes};
 ghost use Rattle.cells.specs.Held.{ordering, tuple};
 ghost use Rattle.columns.specs.Members.{members};
-ghost use Rattle.conditions.specs.Meaning.{sign_of, operand_of, meaning, written_part};
+ghost use Rattle.conditions.specs.Meaning.{sign_of, operand_of, compared_of, meaning, written_part};
 
 use crate::interface::Condition;
 use crate::places::Place;
-use crate::trees::{Comparison, Operand, Written};
+use crate::trees::{Compared, Comparison, Formula, Operand, Written};
 use cells::{Cell, Row};
 use columns::ColumnSet;
 use std::cmp::Ordering;
@@ -30,28 +30,48 @@ impl Comparison {
     }
 }
 
-impl Operand {
+impl Operand<Place, Cell> {
     fn names(&self) -> ColumnSet
         ensures { Same (members result) (operand_reads (operand_of self.now)) }
     {
         match self {
             Operand::Column(place) => only(*place),
-            Operand::Cell(_) => ColumnSet::empty(),
+            Operand::Value(_) => ColumnSet::empty(),
         }
     }
 }
 
-impl Written {
+impl Compared<Place, Cell> {
     // The columns that it names.
+    fn names(&self) -> ColumnSet
+        ensures { Same (members result) (reads_of (compared_of self.now)) }
+    {
+        only(self.column).union(&self.operand.names())
+    }
+
+    fn is_true_of(&self, row: &Row) -> bool
+        ensures { result ≡ admits_row by_bytes (compared_of self.now) (tuple row.now) }
+    {
+        let absent = Cell::Num(0);
+        let left = cell_at(row, self.column, &absent);
+        let order = match &self.operand {
+            Operand::Column(other) => left.compare(cell_at(row, *other, &absent)),
+            Operand::Value(cell) => left.compare(cell),
+        };
+        self.comparison.holds(order)
+    }
+}
+
+impl Written {
     fn names(&self) -> ColumnSet
         ensures { Same (members result) (reads_of (meaning self.now)) }
     {
         match self {
-            Written::Compared(place, _, operand) => only(*place).union(&operand.names()),
-            Written::Not(inner) => inner.names(),
-            Written::Bracket(inner) => inner.names(),
-            Written::And(left, right) => left.names().union(&right.names()),
-            Written::Or(left, right) => left.names().union(&right.names()),
+            Formula::Atom(compared) => compared.names(),
+            Formula::Not(inner) | Formula::Bracket(inner) => inner.names(),
+            Formula::And(left, right) | Formula::Or(left, right) => {
+                left.names().union(&right.names())
+            }
         }
     }
 
@@ -59,16 +79,11 @@ impl Written {
         ensures { result ≡ admits_row by_bytes (meaning self.now) (tuple row.now) }
     {
         match self {
-            Written::Compared(place, comparison, operand) => compares(
-                row,
-                *place,
-                *comparison,
-                operand,
-            ),
-            Written::Not(inner) => !inner.is_true_of(row),
-            Written::Bracket(inner) => inner.is_true_of(row),
-            Written::And(left, right) => left.is_true_of(row) && right.is_true_of(row),
-            Written::Or(left, right) => left.is_true_of(row) || right.is_true_of(row),
+            Formula::Atom(compared) => compared.is_true_of(row),
+            Formula::Not(inner) => !inner.is_true_of(row),
+            Formula::Bracket(inner) => inner.is_true_of(row),
+            Formula::And(left, right) => left.is_true_of(row) && right.is_true_of(row),
+            Formula::Or(left, right) => left.is_true_of(row) || right.is_true_of(row),
         }
     }
 }
@@ -91,24 +106,9 @@ pub(crate) fn only(place: Place) -> ColumnSet
     ColumnSet::empty().with(place.at())
 }
 
-fn compares(row: &Row, place: Place, comparison: Comparison, operand: &Operand) -> bool
-    ensures { result ≡ admits_row by_bytes (compared place.at (sign_of comparison) (operand_of operand.now)) (tuple row.now) }
-{
-    let absent = Cell::Num(0);
-    let left = cell_at(row, place, &absent);
-    let order = match operand {
-        Operand::Column(other) => left.compare(cell_at(row, *other, &absent)),
-        Operand::Cell(cell) => left.compare(cell),
-    };
-    comparison.holds(order)
-}
-
 // The cell at a place, and another where the row ends before it.
 pub(crate) fn cell_at<'a>(row: &'a Row, place: Place, absent: &'a Cell) -> &'a Cell
     ensures { result.now ≡ slice_index_or row.now.cells.items place.at absent.now }
 {
-    match row.cells.get(place.at()) {
-        Some(cell) => cell,
-        None => absent,
-    }
+    row.cells.get(place.at()).unwrap_or(absent)
 }

@@ -35,12 +35,11 @@ impl Pick {
 }
 
 // No fault is due exactly to 1 to 32 ascending cells of one kind.
-pub fn picks_stand() -> u8
+pub fn picks_stand()
     ensures { PicksRight }
-{
-    0
-}
+{}
 
+// No `From`: its promise is in the words of picks, which the crate of `Cell` does not know.
 pub fn kind_of(cell: &Cell) -> Kind
     ensures { kind_of result ≡ kind_of_value (value cell.now) }
 {
@@ -53,47 +52,31 @@ pub fn kind_of(cell: &Cell) -> Kind
 fn are_cells(cells: &[Cell]) -> bool
     ensures { result ≡ every is_cell (map value cells.now) }
 {
-    for cell in cells {
-        if !cell.is_of(kind_of(cell)) {
-            return false;
-        }
-    }
-    true
+    cells.iter().all(|cell| cell.is_of(kind_of(cell)))
 }
 
 fn are_few(cells: &[Cell]) -> bool
     ensures { result ≡ is_few (map value cells.now) }
 {
-    1 <= cells.len() && cells.len() <= 32
+    (1..=32).contains(&cells.len())
 }
 
 fn are_of_one_kind(cells: &[Cell]) -> bool
     ensures { result ≡ of_first_kind (map value cells.now) }
 {
-    match cells.first() {
-        Some(first) => are_of(kind_of(first), cells),
-        None => true,
-    }
+    cells
+        .first()
+        .is_none_or(|first| are_of(kind_of(first), cells))
 }
 
 fn are_of(kind: Kind, cells: &[Cell]) -> bool
     ensures { result ≡ every (of_kind (kind_of kind)) (map value cells.now) }
 {
-    for cell in cells {
-        if !cell.is_of(kind) {
-            return false;
-        }
-    }
-    true
+    cells.iter().all(|cell| cell.is_of(kind))
 }
 
 fn are_ascending(cells: &[Cell]) -> bool
     ensures { result ≡ rising by_bytes (map value cells.now) }
 {
-    for i in 1..cells.len() {
-        if !cells[i - 1].compare(&cells[i]).is_lt() {
-            return false;
-        }
-    }
-    true
+    cells.is_sorted_by(|a, b| a.compare(b).is_lt())
 }

@@ -5,19 +5,20 @@ ghost use Rattle.model.specs.Values.{any, same_value};
 ghost use Rattle.cells.specs.Answering.{Answers};
 ghost use Rattle.cells.specs.Held.{kind_of, value};
 ghost use Rattle.cells.specs.declared.faults.Refusal.TheVariants.{Memory};
+ghost use Rattle.conditions.specs.Found.{in_scope};
 ghost use Rattle.conditions.specs.Picks.{first_kind};
 ghost use Rattle.conditions.specs.Picked.{chosen, sought};
 ghost use Rattle.conditions.specs.Placed.{pick_part, placed_cells};
-ghost use Rattle.conditions.specs.Resolving.{first_eight, kind_named, kinds_fault};
+ghost use Rattle.conditions.specs.Resolving.{kind_named, kinds_fault};
 
 use super::Pick;
 use super::choosing::kind_of;
 use crate::interface::Condition;
 use crate::places::Place;
-use crate::settling::find_column;
+use crate::settling::Scope;
 use crate::truth::{cell_at, only};
-use cells::{Cause, Cell, Kind, Refusal, Row, refused};
-use columns::{Column, ColumnSet};
+use cells::{Cell, Kind, Refusal, Row};
+use columns::ColumnSet;
 
 // A pick with its column by its place.
 #[derive(Debug, Drop)]
@@ -34,17 +35,13 @@ impl Pick {
         kind_of(&self.cells[0])
     }
 
-    // Looks its column up; a fault has the kind and the place given here.
-    pub fn at(self, columns: &[Column], kind: u8, place: usize) -> Result<PickAt, Refusal>
-        ensures answers { Answers (kinds_fault kind place (kind_named (first_eight columns.now) (sought self)) (first_kind (chosen self))) (λ p. (Some p.place.at ≡ lookup (first_eight columns.now) (sought self)) × (placed_cells p ≡ chosen self)) result }
+    // Looks its column up.
+    pub fn at(self, scope: Scope<'_>) -> Result<PickAt, Refusal>
+        ensures answers { Answers (kinds_fault scope.entry.kind scope.entry.place (kind_named (in_scope scope.entry) (sought self)) (first_kind (chosen self))) (λ p. (Some p.place.at ≡ lookup (in_scope scope.entry) (sought self)) × (placed_cells p ≡ chosen self)) result }
         ensures decides { IfErr result (λ e. e ≢ Memory) }
     {
-        let Some(column) = find_column(columns, &self.word) else {
-            return Err(refused(Cause::UnknownColumn, kind, place));
-        };
-        if column.kind != self.kind() {
-            return Err(refused(Cause::UnlikeKinds, kind, place));
-        }
+        let column = scope.find(&self.word)?;
+        scope.match_kinds(column.kind, self.kind())?;
         Ok(PickAt {
             place: column.place,
             pick: self,
@@ -68,10 +65,5 @@ impl Condition for PickAt {
 fn is_among(cell: &Cell, cells: &[Cell]) -> bool
     ensures { result ≡ any (same_value (value cell.now)) (map value cells.now) }
 {
-    for other in cells {
-        if cell.is_same(other) {
-            return true;
-        }
-    }
-    false
+    cells.iter().any(|other| cell.is_same(other))
 }

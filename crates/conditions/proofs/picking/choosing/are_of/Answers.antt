@@ -1,20 +1,12 @@
-use Rattle.std.proofs.Common.{◌∙◌, rules}
-use Rattle.model.specs.Sorts.{of_kind}
+use Rattle.std.proofs.Common.{rules, sym, ◌∙◌}
+use Rattle.std.proofs.lemmas.Iterator.{YieldsList-from_slice}
+use Rattle.std.proofs.lemmas.Iterator.Search.{all_from_yields_List}
+use Rattle.std.proofs.lemmas.List.Folds.{list_all-map}
 use Rattle.cells.specs.Held.{kind_of, value}
-use Rattle.cells.proofs.Walks.{every_more, every_fails, every_all}
-use Rattle.conditions.proofs.Mapped.{every_map}
+use Rattle.model.specs.Sorts.{of_kind}
 use Rattle.conditions.proofs.picking.choosing.are_of.Goals as goal
-
-pub loop-cell-preserved : goal.loop-cell-preserved
-loop-cell-preserved c =
-    every_more (λ x. of_kind (kind_of c.args.kind) (value x)) c.args.cells.now c.loop-cell.cell-index _ c.cell-item.result c.loop-cell-test.true (search rules) c.loop-cell.invariant
-
-pub returns-then-not-is_of : goal.returns-then-not-is_of
-returns-then-not-is_of c =
-    every_fails (λ x. of_kind (kind_of c.args.kind) (value x)) c.args.cells.now c.loop-cell.cell-index _ c.cell-item.result c.loop-cell-test.true (search rules) c.loop-cell.invariant
-    ∙ every_map (of_kind (kind_of c.args.kind)) value c.args.cells.now
 
 pub returns : goal.returns
 returns c =
-    every_all (λ x. of_kind (kind_of c.args.kind) (value x)) c.args.cells.now c.loop-cell.cell-index _ c.loop-cell-test.false c.loop-cell.invariant
-    ∙ every_map (of_kind (kind_of c.args.kind)) value c.args.cells.now
+    all_from_yields_List (λ x. of_kind (kind_of c.args.kind) (value x)) _ _ c.all.result c.all.ensures.ran (YieldsList-from_slice c.args.cells.now c.iter.ensures.rest) (λ x b q k. search rules)
+    ∙ sym (list_all-map (of_kind (kind_of c.args.kind)) value c.args.cells.now)
