@@ -1,6 +1,5 @@
-pub mod Adding
+pub mod Mapped
+pub mod Placing
 pub mod Refusing
-pub mod Wording
-pub mod Sizing
 pub mod Tabling
-pub mod Parting
+pub mod Wording

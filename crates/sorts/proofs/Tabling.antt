@@ -1,12 +1,14 @@
 -- Columns that are described one after the other.
-use Rattle.std.proofs.Common.{◌≡◌, ℕ, ◌+◌, ◌<◌, ◌≤◌, Bool, true, false, cond, ◌||◌, eqb, ltb, List, [], ◌∷◌, ◌++◌, map, length, get_or, take, drop, Some, None, Option, sym, refl, ap, ◌∙◌, ap₂, arith, le-ltb, lt-ltb, true-eqb, false-eqb}
-use Rattle.std.proofs.lemmas.List.{at_drop_more, at_drop_all, map_more, take_all, length-map}
+use Rattle.std.proofs.Common.{◌≡◌, ℕ, ◌+◌, ◌<◌, Bool, true, false, cond, ◌&&◌, not, eqb, List, [], ◌∷◌, ◌++◌, map, length, get_or, take, drop, Some, None, Option, sym, refl, ap, ◌∙◌, arith}
+use Rattle.std.proofs.lemmas.List.{at_drop_more, map_more}
+use Rattle.std.proofs.lemmas.Bool.{false≢true}
 use Rattle.model.specs.Faults.{Fault, fault, or_then}
-use Rattle.model.specs.Values.{any, same_bytes}
+use Rattle.model.specs.Values.{every}
+use Rattle.model.specs.Words.{is_name}
 use Rattle.model.specs.Sorts.{Column, Sort}
 use Rattle.cells.specs.Worded.{name_fault}
 use Rattle.sorts.specs.declared.offered.NewColumn.{NewColumn}
-use Rattle.sorts.specs.Describing.{words_fault, column_words, column_fault, columns_fault, later_column_fault, all_columns_fault, name_used_fault, of_columns, with_column}
+use Rattle.sorts.specs.Describing.{words_fault, column_words, column_fault, columns_fault, later_column_fault, all_columns_fault, of_columns, with_column}
 use Rattle.sorts.specs.Offered.{offered_column, offered_columns}
 
 some_none : (f : Fault) → Some f ≡ None → ⊥
@@ -50,31 +52,16 @@ module _ (xs : List NewColumn) (i : ℕ) (d : NewColumn) (here : i < length xs) 
       pub next_named : words_fault (column_words (offered_columns (drop (i + 1) xs))) ≡ None
       next_named = none_second _ _ None a_name (sym words_at ∙ named)
 
-pub none_offered : (xs : List NewColumn) → true ≡ eqb (length xs) 0 → all_columns_fault (offered_columns xs) ≡ fault 4 0 0
-none_offered [] e = refl
-none_offered (x ∷ xs) e = absurd (let z : ⊥ = omega (arith, true-eqb (length (x ∷ xs)) 0 e) in z)
+pub some_offered : (xs : List NewColumn) (b : Bool) → b ≡ eqb (length xs) 0 → cond (not b) None (fault 4 0 0) ≡ None → all_columns_fault (offered_columns xs) ≡ columns_fault [] (offered_columns xs)
+some_offered [] true e h = absurd (some_none (record { number = 4; kind = 0; place = 0 }) h)
+some_offered [] false e h = absurd (false≢true e)
+some_offered (x ∷ xs) b e h = refl
 
-pub some_offered : (xs : List NewColumn) → false ≡ eqb (length xs) 0 → all_columns_fault (offered_columns xs) ≡ columns_fault [] (offered_columns xs)
-some_offered [] e = absurd (false-eqb 0 0 e refl)
-some_offered (x ∷ xs) e = refl
+-- every word is a name
+both_due : (a b : Bool) → or_then (cond a None (fault 3 0 0)) (cond b None (fault 3 0 0)) ≡ cond (a && b) None (fault 3 0 0)
+both_due true b = refl
+both_due false b = refl
 
-pub all_described : (xs : List NewColumn) (i : ℕ) (S : Sort) → length xs ≤ i → S ≡ of_columns (offered_columns (take i xs)) → S ≡ of_columns (offered_columns xs)
-all_described xs i S h e = e ∙ ap (λ l. of_columns (offered_columns l)) (take_all i xs h)
-
-pub all_fit : (xs : List NewColumn) (i : ℕ) (T : Option Fault) → length xs ≤ i → columns_fault (offered_columns (take i xs)) (offered_columns (drop i xs)) ≡ T → T ≡ None
-all_fit xs i T h e = sym e ∙ at_drop_all (λ l. columns_fault (offered_columns (take i xs)) (offered_columns l)) xs i h
-
--- a name among those in use
-abbrev pub named_so : {A : Type 0} → (A → List ℕ) → List ℕ → A → Bool
-named_so name w t = same_bytes (name t) w
-
-module _ {A : Type 0} (name : A → List ℕ) (tables : List A) (w : List ℕ) where
-  any_map : (l : List A) → any (λ t. same_bytes t w) (map name l) ≡ any (λ t. same_bytes (name t) w) l
-  any_map [] = refl
-  any_map (x ∷ l) = ap (λ b. same_bytes (name x) w || b) (any_map l)
-
-  pub many_tables : 8 ≤ length tables → name_used_fault (map name tables) w ≡ fault 4 0 0
-  many_tables h = ap (λ b. cond b (cond (any (λ t. same_bytes t w) (map name tables)) (fault 5 0 0) None) (fault 4 0 0)) (ap (λ n. ltb n 8) (length-map tables name) ∙ le-ltb (length tables) 8 h)
-
-  pub name_used : (b : Bool) → length tables < 8 → any (λ t. same_bytes (name t) w) tables ≡ b → name_used_fault (map name tables) w ≡ cond b (fault 5 0 0) None
-  name_used b h e = ap₂ (λ x y. cond x (cond y (fault 5 0 0) None) (fault 4 0 0)) (ap (λ n. ltb n 8) (length-map tables name) ∙ lt-ltb (length tables) 8 h) (any_map tables ∙ e)
+pub all_names : (xs : List NewColumn) → words_fault (column_words (offered_columns xs)) ≡ cond (every is_name (map (λ d. d.word.now) xs)) None (fault 3 0 0)
+all_names [] = refl
+all_names (d ∷ xs) = ap (or_then (cond (is_name d.word.now) None (fault 3 0 0))) (all_names xs) ∙ both_due (is_name d.word.now) (every is_name (map (λ d. d.word.now) xs))

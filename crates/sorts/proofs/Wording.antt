@@ -1,46 +1,32 @@
--- Loops over offered words that compute a conjunction or a disjunction.
-use Rattle.std.proofs.Common.{◌≡◌, ℕ, ◌+◌, ◌-◌, ◌<◌, ◌≤◌, Bool, true, false, ◌&&◌, ◌||◌, List, [], ◌∷◌, length, get_or, take, drop, sym, ap, ◌∙◌, subst, Bor}
-use Rattle.std.proofs.lemmas.List.{length-map, get_or-map, drop-map, take_rest, at_drop_more, at_drop_all}
-use Rattle.columns.proofs.Folds.{and_stop, and_go, and_end, or_stop, or_go, or_end}
+-- Words that stand once, by the place of each.
+use Rattle.std.proofs.Common.{◌≡◌, ℕ, ◌+◌, Bool, not, ◌&&◌, ◌||◌, List, [], ◌∷◌, drop, sym, refl, ap, ◌∙◌, ap₂, Bor, Decides, rules}
+use Rattle.std.proofs.lemmas.List.{drop-drop}
+use Rattle.std.proofs.lemmas.Slice.Eq.{compares_Decides}
+use Rattle.std.specs.Bool.{one_answer}
+use Rattle.std.specs.List.{enumerate_from}
+use Rattle.model.specs.Values.{any, every, same_bytes}
+use Rattle.sorts.specs.Describing.{once}
 use Rattle.sorts.specs.Offered.{words}
 
-pub within : (names : List (Bor (List ℕ))) (i : ℕ) → i < length names → i < length (words names)
-within names i h = subst (λ n. i < n) (sym (length-map names (λ r. r.now))) h
+decide : (v w : List ℕ) → Decides (same_bytes v w) (v ≡ w)
+decide = compares_Decides same_bytes (search rules)
 
-pub past : (names : List (Bor (List ℕ))) (i : ℕ) → length names ≤ i → length (words names) ≤ i
-past names i h = subst (λ n. n ≤ i) (sym (length-map names (λ r. r.now))) h
+either_way : (v w : List ℕ) → same_bytes v w ≡ same_bytes w v
+either_way v w = let d = decide w v in one_answer (same_bytes v w) (same_bytes w v) (decide v w) ((λ t. sym (d.0 t)), λ e. d.1 (sym e))
 
-pub word_at : (names : List (Bor (List ℕ))) (i : ℕ) (d : Bor (List ℕ)) → i < length names → (get_or names i d).now ≡ get_or (words names) i (get_or names i d).now
-word_at names i d h = sym (get_or-map (λ r. r.now) names i d (get_or names i d).now h)
+-- no later word is the same as that at a place
+abbrev pub last_so : List (Bor (List ℕ)) → ℕ × Bor (List ℕ) → Bool
+last_so xs p = not (any (λ r. same_bytes r.now p.1.now) (drop (p.0 + 1) xs))
 
-module _ (F : List (List ℕ) → Bool) (t : List ℕ → List (List ℕ) → Bool) (next : (x : List ℕ) (l : List (List ℕ)) → F (x ∷ l) ≡ (t x l && F l)) (names : List (Bor (List ℕ))) (i : ℕ) where
-  pub all_stop : (d : Bor (List ℕ)) → i < length names → t (get_or names i d).now (drop (i + 1) (words names)) ≡ false → F (drop i (words names)) ≡ F (words names) → F (words names) ≡ false
-  all_stop d h e inv = sym (and_stop F t next (words names) i (get_or names i d).now (within names i h) (word_at names i d h) e inv)
+among : (w : Bor (List ℕ)) (l : List (Bor (List ℕ))) → any (λ r. same_bytes r.now w.now) l ≡ any (same_bytes w.now) (words l)
+among w [] = refl
+among w (r ∷ l) = ap₂ ◌||◌ (either_way r.now w.now) (among w l)
 
-  pub all_go : (d : Bor (List ℕ)) → i < length names → t (get_or names i d).now (drop (i + 1) (words names)) ≡ true → F (drop i (words names)) ≡ F (words names) → F (drop (i + 1) (words names)) ≡ F (words names)
-  all_go d h e inv = and_go F t next (words names) i (get_or names i d).now (within names i h) (word_at names i d h) e inv
+once_from : (xs l : List (Bor (List ℕ))) (i : ℕ) → drop i xs ≡ l → every (last_so xs) (enumerate_from i l) ≡ once (words l)
+once_from xs [] i e = refl
+once_from xs (r ∷ l) i e =
+    let next : drop (i + 1) xs ≡ l = sym (drop-drop 1 i xs) ∙ ap (drop 1) e in
+    ap₂ ◌&&◌ (ap (λ k. not (any (λ s. same_bytes s.now r.now) k)) next ∙ ap not (among r l)) (once_from xs l (i + 1) next)
 
-pub all_end : (F : List (List ℕ) → Bool) (names : List (Bor (List ℕ))) (i : ℕ) → F [] ≡ true → length names ≤ i → F (drop i (words names)) ≡ F (words names) → F (words names) ≡ true
-all_end F names i e h inv = sym (and_end F (words names) i e (past names i h) inv)
-
-module _ (F : List (List ℕ) → Bool) (t : List ℕ → Bool) (next : (x : List ℕ) (l : List (List ℕ)) → F (x ∷ l) ≡ (t x || F l)) (names : List (Bor (List ℕ))) (i : ℕ) where
-  pub some_stop : (d : Bor (List ℕ)) → i < length names → t (get_or names i d).now ≡ true → F (drop i (words names)) ≡ F (words names) → true ≡ F (words names)
-  some_stop d h e inv = or_stop F t next (words names) i (get_or names i d).now (within names i h) (word_at names i d h) e inv
-
-  pub some_go : (d : Bor (List ℕ)) → i < length names → t (get_or names i d).now ≡ false → F (drop i (words names)) ≡ F (words names) → F (drop (i + 1) (words names)) ≡ F (words names)
-  some_go d h e inv = or_go F t next (words names) i (get_or names i d).now (within names i h) (word_at names i d h) e inv
-
-pub some_end : (F : List (List ℕ) → Bool) (names : List (Bor (List ℕ))) (i : ℕ) → F [] ≡ false → length names ≤ i → F (drop i (words names)) ≡ F (words names) → false ≡ F (words names)
-some_end F names i e h inv = or_end F (words names) i e (past names i h) inv
-
--- the words of what is left of a list
-pub rest_words : (names : List (Bor (List ℕ))) (j : ℕ) → words (take (length names - j) (drop j names)) ≡ drop j (words names)
-rest_words names j = ap words (take_rest names j) ∙ sym (drop-map (λ r. r.now) j names)
-
--- what a fold over the words comes to from a place on
-pub fold_at : {Y : Type 0} (F : List (List ℕ) → Y) (names : List (Bor (List ℕ))) (i : ℕ) (d : Bor (List ℕ)) → i < length names →
-    F (drop i (words names)) ≡ F ((get_or names i d).now ∷ drop (i + 1) (words names))
-fold_at F names i d h = at_drop_more F (words names) i (get_or names i d).now (within names i h) ∙ ap (λ x. F (x ∷ drop (i + 1) (words names))) (sym (word_at names i d h))
-
-pub fold_end : {Y : Type 0} (F : List (List ℕ) → Y) (names : List (Bor (List ℕ))) (i : ℕ) → length names ≤ i → F (drop i (words names)) ≡ F []
-fold_end F names i h = at_drop_all F (words names) i (past names i h)
+pub once_each : (xs : List (Bor (List ℕ))) → every (last_so xs) (enumerate_from 0 xs) ≡ once (words xs)
+once_each xs = once_from xs xs 0 refl

@@ -1,9 +1,9 @@
-// How a sort is described.
+//! How a sort is described.
 ghost use Rattle.std.specs.Prelude.{◌≡◌, [], OnErr};
 ghost use Rattle.cells.specs.Answering.{Answers};
 ghost use Rattle.model.specs.Conditions.{parts_of};
 ghost use Rattle.model.specs.Orders.{by_bytes};
-ghost use Rattle.model.specs.Values.{any, same_bytes};
+ghost use Rattle.model.specs.Values.{any};
 ghost use Rattle.conditions.specs.Meaning.{meaning};
 ghost use Rattle.columns.specs.Members.{members, dependency, dependencies};
 ghost use Rattle.columns.specs.Named.{named_columns};
@@ -12,6 +12,7 @@ ghost use Rattle.sorts.specs.Described.{described};
 ghost use Rattle.sorts.specs.Offered.{words, offered_column};
 
 use crate::description::Description;
+use crate::ensuring::ensure;
 use crate::offered::NewColumn;
 use cells::{Cause, Refusal, Word};
 use columns::{Column, ColumnSet, Dependency, has_tree_form, place_of};
@@ -22,98 +23,63 @@ use std::alloc::Global;
 fn check_column(columns: &[Column], column: NewColumn) -> Result<(), Refusal>
     ensures { Answers (column_fault (named_columns columns.now) (offered_column column.entry)) (λ _. Unit {0}) result }
 {
-    if columns.len() >= 8 {
-        return Err(Refusal::of(Cause::Limit));
-    }
-    match place_of(columns, column.word) {
-        Some(_) => Err(Refusal::of(Cause::Repeated)),
-        None => Ok(()),
-    }
+    ensure(columns.len() < 8, Cause::Limit)?;
+    ensure(place_of(columns, column.word).is_none(), Cause::Repeated)
 }
 
 // Every word names a column.
 fn check_known(columns: &[Column], names: &[&[u8]]) -> Result<(), Refusal>
     ensures { Answers (unknown_fault (named_columns columns.now) (words names.now)) (λ _. Unit {0}) result }
 {
-    for name in names {
-        match place_of(columns, name) {
-            Some(_) => {}
-            None => return Err(Refusal::of(Cause::UnknownColumn)),
-        }
-    }
-    Ok(())
-}
-
-fn is_among(word: &[u8], names: &[&[u8]]) -> bool
-    ensures { result ≡ any (same_bytes word.now) (words names.now) }
-{
-    for name in names {
-        if word == *name {
-            return true;
-        }
-    }
-    false
+    let known = names.iter().all(|name| place_of(columns, name).is_some());
+    ensure(known, Cause::UnknownColumn)
 }
 
 // No word stands twice.
 fn check_once(names: &[&[u8]]) -> Result<(), Refusal>
     ensures { Answers (twice_fault (words names.now)) (λ _. Unit {0}) result }
 {
-    for i in 0..names.len() {
-        if is_among(names[i], &names[i + 1..]) {
-            return Err(Refusal::of(Cause::Repeated));
-        }
-    }
-    Ok(())
+    let once = names
+        .iter()
+        .enumerate()
+        .all(|(i, name)| !names[i + 1..].contains(name));
+    ensure(once, Cause::Repeated)
 }
 
 // Neither set is empty, and there are fewer than eight dependencies.
 fn check_sizes(deps: &[Dependency], left: &[&[u8]], right: &[&[u8]]) -> Result<(), Refusal>
     ensures { Answers (sizes_fault (dependencies deps.now) (words left.now) (words right.now)) (λ _. Unit {0}) result }
 {
-    if left.is_empty() || right.is_empty() || deps.len() >= 8 {
-        return Err(Refusal::of(Cause::Limit));
-    }
-    Ok(())
+    ensure(
+        !left.is_empty() && !right.is_empty() && deps.len() < 8,
+        Cause::Limit,
+    )
 }
 
 // The set of the columns that the words name.
 fn named_set(columns: &[Column], names: &[&[u8]]) -> ColumnSet
     ensures { members result ≡ named_set (named_columns columns.now) (words names.now) }
 {
-    let mut all = ColumnSet::empty();
-    for i in (0..names.len()).rev() {
-        if let Some(place) = place_of(columns, names[i]) {
-            all = all.with(place);
-        }
-    }
-    all
+    names
+        .iter()
+        .filter_map(|name| place_of(columns, name))
+        .fold(ColumnSet::empty(), ColumnSet::with)
 }
 
 fn is_repeated(deps: &[Dependency], d: &Dependency) -> bool
     ensures { result ≡ any (same_dependency (dependency d.now)) (dependencies deps.now) }
 {
-    for e in deps {
-        if d.is_same(e) {
-            return true;
-        }
-    }
-    false
+    deps.iter().any(|e| d.is_same(e))
 }
 
 // The dependency is a new one, and the list has tree form with it.
 fn check_form(heap: Global, deps: &[Dependency], d: Dependency) -> Result<(), Refusal>
     ensures { Answers (form_fault (dependencies deps.now) (dependency d)) (λ _. Unit {0}) result }
 {
-    if is_repeated(deps, &d) {
-        return Err(Refusal::of(Cause::NoTreeForm));
-    }
+    ensure(!is_repeated(deps, &d), Cause::NoTreeForm)?;
     let mut all = Vec::from_slice(heap, deps)?;
     all.push(d)?;
-    if !has_tree_form(heap, &all)? {
-        return Err(Refusal::of(Cause::NoTreeForm));
-    }
-    Ok(())
+    ensure(has_tree_form(heap, &all)?, Cause::NoTreeForm)
 }
 
 impl Description {
@@ -134,10 +100,8 @@ impl Description {
     {
         let word = Word::new(heap, column.word)?;
         check_column(&self.columns, column)?;
-        self.columns.push(Column {
-            word,
-            kind: column.kind,
-        })?;
+        let kind = column.kind;
+        self.columns.push(Column { word, kind })?;
         Ok(())
     }
 
@@ -163,7 +127,7 @@ impl Description {
         Ok(d)
     }
 
-    // One dependency more.
+    // One dependency more. Its two sides are names lent for the call: a struct of them would be taken apart at once.
     pub fn add_dependency<'a>(
         &mut self,
         heap: Global,
@@ -184,9 +148,8 @@ impl Description {
         ensures kept { OnErr result (described self.new ≡ described self.old) }
     {
         let mut parts = condition.into_parts(heap)?;
-        if self.parts.len().saturating_add(parts.len()) > 8 {
-            return Err(Refusal::of(Cause::Limit));
-        }
+        let count = self.parts.len().saturating_add(parts.len());
+        ensure(count <= 8, Cause::Limit)?;
         self.parts.append(&mut parts)?;
         Ok(())
     }

@@ -1,4 +1,4 @@
-// A sort that is being described.
+//! A sort that is being described.
 ghost use Rattle.std.specs.Prelude.{◌≤◌, vec_len};
 
 use columns::{Column, Dependency};

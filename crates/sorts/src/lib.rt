@@ -3,6 +3,7 @@
 
 mod describing;
 mod description;
+mod ensuring;
 mod offered;
 mod sealing;
 mod sort;

@@ -1,4 +1,4 @@
-// How a description is sealed, and what a sealed sort is asked.
+//! How a description is sealed, and what a sealed sort is asked.
 ghost use Rattle.std.specs.Prelude.{◌≡◌, ◌≤◌, map, length};
 ghost use Rattle.model.specs.Sorts.{admitted};
 ghost use Rattle.cells.specs.Held.{tuple};
@@ -17,16 +17,7 @@ impl Description {
     pub fn seal(self) -> Sort
         ensures { sort_of result ≡ sealed (described self) }
     {
-        let Description {
-            columns,
-            deps,
-            parts,
-        } = self;
-        Sort {
-            columns,
-            deps,
-            parts,
-        }
+        Sort { description: self }
     }
 }
 
@@ -36,20 +27,20 @@ impl Sort {
         ensures columns { named_columns result.now ≡ (sort_of self.now).columns }
         ensures few { length result.now ≤ 8 }
     {
-        self.columns.as_slice()
+        self.description.columns.as_slice()
     }
 
     // The dependencies, which count below the number of columns.
     pub fn deps(&self) -> &[Dependency]
         ensures { map (narrowed (length (sort_of self.now).columns)) (dependencies result.now) ≡ (sort_of self.now).deps }
     {
-        self.deps.as_slice()
+        self.description.deps.as_slice()
     }
 
     // Whether every part of the condition admits the row.
     pub fn admits(&self, row: &Row) -> bool
         ensures { result ≡ admitted (sort_of self.now).parts (tuple row.now) }
     {
-        admits_all(&self.parts, row)
+        admits_all(&self.description.parts, row)
     }
 }

@@ -1,14 +1,8 @@
-// A sealed sort.
-ghost use Rattle.std.specs.Prelude.{◌≤◌, vec_len};
-
-use columns::{Column, Dependency};
-use conditions::Written;
+//! A sealed sort.
+use crate::description::Description;
 
 // What a description is sealed into. It takes no further column, dependency or part.
 #[derive(Drop)]
 pub struct Sort {
-    pub(crate) columns: Vec<Column>,
-    pub(crate) deps: Vec<Dependency>,
-    pub(crate) parts: Vec<Written>,
-    ghost few: { vec_len columns ≤ 8 },
+    pub(crate) description: Description,
 }

@@ -1,4 +1,4 @@
-// A table that is being described.
+//! A table that is being described.
 ghost use Rattle.std.specs.Prelude.{◌≤◌};
 
 use crate::description::Description;

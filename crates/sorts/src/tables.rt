@@ -1,4 +1,4 @@
-// How a caller's tables are described.
+//! How a caller's tables are described.
 ghost use Rattle.std.specs.Prelude.{◌≡◌, ℕ, List, map, None};
 ghost use Rattle.cells.specs.Answering.{Answers};
 ghost use Rattle.cells.specs.Worded.{letters};
@@ -8,6 +8,7 @@ ghost use Rattle.sorts.specs.Described.{described};
 ghost use Rattle.sorts.specs.Offered.{offered_columns};
 
 use crate::description::Description;
+use crate::ensuring::ensure;
 use crate::offered::NewColumn;
 use crate::table::NewTable;
 use cells::{Cause, Refusal, Word, is_name};
@@ -25,27 +26,17 @@ pub trait Named {
 fn check_words(columns: &[NewColumn]) -> Result<(), Refusal>
     ensures { Answers (words_fault (column_words (offered_columns columns.now))) (λ _. Unit {0}) result }
 {
-    for column in columns {
-        if !is_name(column.word) {
-            return Err(Refusal::of(Cause::Size));
-        }
-    }
-    Ok(())
+    let named = columns.iter().all(|column| is_name(column.word));
+    ensure(named, Cause::Size)
 }
 
 // The name is new, and there are fewer than eight tables.
 fn check_name<T: Named>(tables: &[T], word: &[u8]) -> Result<(), Refusal>
     ensures { Answers (name_used_fault (map T.Named.name tables.now) word.now) (λ _. Unit {0}) result }
 {
-    if tables.len() >= 8 {
-        return Err(Refusal::of(Cause::Limit));
-    }
-    for table in tables {
-        if table.is_named(word) {
-            return Err(Refusal::of(Cause::Repeated));
-        }
-    }
-    Ok(())
+    ensure(tables.len() < 8, Cause::Limit)?;
+    let used = tables.iter().any(|table| table.is_named(word));
+    ensure(!used, Cause::Repeated)
 }
 
 // The columns of a table, whose words are names.
@@ -53,9 +44,7 @@ fn describe_columns(heap: Global, columns: &[NewColumn]) -> Result<Description, 
     requires { words_fault (column_words (offered_columns columns.now)) ≡ None }
     ensures { Answers (all_columns_fault (offered_columns columns.now)) (λ d. described d ≡ of_columns (offered_columns columns.now)) result }
 {
-    if columns.is_empty() {
-        return Err(Refusal::of(Cause::Limit));
-    }
+    ensure(!columns.is_empty(), Cause::Limit)?;
     let mut sort = Description::new(heap);
     for column in columns {
         sort.add_column(heap, *column)?;
@@ -67,10 +56,7 @@ fn describe_columns(heap: Global, columns: &[NewColumn]) -> Result<Description, 
 fn check_room(room: usize) -> Result<(), Refusal>
     ensures { Answers (room_fault room) (λ _. Unit {0}) result }
 {
-    if room < 1 || room > 128 {
-        return Err(Refusal::of(Cause::Room));
-    }
-    Ok(())
+    ensure((1..=128).contains(&room), Cause::Room)
 }
 
 // A table more for a caller who has these.

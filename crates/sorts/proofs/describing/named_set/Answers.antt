@@ -1,28 +1,13 @@
-use Rattle.std.proofs.Common.{◌≡◌, ◌+◌, ◌-◌, true, drop, set, sym, ap, ◌∙◌, arith}
+use Rattle.std.proofs.Common.{◌∙◌, rules}
+use Rattle.std.proofs.lemmas.Iterator.{YieldsList-from_slice}
+use Rattle.std.proofs.lemmas.Iterator.Consumers.{YieldsList-from_filter_map}
+use Rattle.model.specs.Sorts.{lookup}
 use Rattle.columns.specs.Named.{named_columns}
-use Rattle.sorts.specs.Describing.{named_set, with_place}
-use Rattle.sorts.specs.Offered.{words}
-use Rattle.sorts.proofs.Wording.{fold_at, fold_end}
+use Rattle.sorts.proofs.Placing.{folded, placed_named}
 use Rattle.sorts.proofs.describing.named_set.Goals as goal
 
-pub loop-i-init : goal.loop-i-init
-loop-i-init c = c.empty-all.ensures ∙ sym (fold_end (named_set (named_columns c.args.columns.now)) c.args.names.now _ (omega arith))
-
-pub loop-i-preserved-in-Some : goal.loop-i-preserved-in-Some
-loop-i-preserved-in-Some c =
+pub returns : goal.returns
+returns c =
     let C = named_columns c.args.columns.now in
-    let e : c.loop-i.i ≡ c.loop-i.i - 1 + 1 = omega arith in
-    let Y = named_set C (drop (c.loop-i.i - 1 + 1) (words c.args.names.now)) in
-    c.with-all.ensures
-    ∙ ap (λ X. set X c.in-Some.place true) (c.loop-i.invariant ∙ ap (λ k. named_set C (drop k (words c.args.names.now))) e)
-    ∙ ap (λ p. with_place p Y) c.in-Some.ensures
-    ∙ sym (fold_at (named_set C) c.args.names.now (c.loop-i.i - 1) _ (omega arith))
-
-pub loop-i-preserved : goal.loop-i-preserved
-loop-i-preserved c =
-    let C = named_columns c.args.columns.now in
-    let e : c.loop-i.i ≡ c.loop-i.i - 1 + 1 = omega arith in
-    let Y = named_set C (drop (c.loop-i.i - 1 + 1) (words c.args.names.now)) in
-    c.loop-i.invariant ∙ ap (λ k. named_set C (drop k (words c.args.names.now))) e
-    ∙ ap (λ p. with_place p Y) c.in_default.ensures
-    ∙ sym (fold_at (named_set C) c.args.names.now (c.loop-i.i - 1) _ (omega arith))
+    folded _ _ c.fold.ensures.ran (YieldsList-from_filter_map _ (λ r. lookup C r.now) (YieldsList-from_slice c.args.names.now cc) c.filter_map.ensures.closure (λ x r q k. search rules)) c.empty.ensures (λ a x b q k. search rules)
+    ∙ placed_named C c.args.names.now
