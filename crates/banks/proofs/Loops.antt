@@ -1,14 +1,12 @@
 -- The turns of the loops that read. Assumes nothing.
-use Rattle.std.proofs.Common.{◌≡◌, ℕ, ◌+◌, ◌-◌, ◌<◌, ◌≤◌, Bool, true, false, cond, eqb, List, [], ◌∷◌, ◌++◌, map, length, get_or, take, drop, sym, refl, ap, ◌∙◌, append_assoc, append-nil, arith}
+use Rattle.std.proofs.Common.{◌≡◌, ℕ, ◌+◌, ◌<◌, ◌≤◌, Bool, true, false, cond, eqb, List, [], ◌∷◌, ◌++◌, map, length, get_or, drop, sym, refl, ap, ◌∙◌, append_assoc, append-nil}
 use Rattle.std.proofs.lemmas.List.{drop_more, drop_all}
-use Rattle.std.proofs.lemmas.Bool.{eq-eqb, ne_eqb}
 use Rattle.model.specs.Values.{Value, Tuple}
 use Rattle.model.specs.Banks.{Read, found, bad, and_then, place_in, kind_byte, read_header, read_cell, read_cells}
 use Rattle.cells.specs.Held.{kind_of}
 use Rattle.columns.specs.declared.column.Column.{Column}
 use Rattle.columns.specs.Named.{named_column}
 use Rattle.banks.specs.Fields.{kind_bytes}
-use Rattle.banks.proofs.Fronts.{rest_is}
 
 -- what is read after cells that were
 abbrev pub cells_after : Tuple → Read Tuple → Read Tuple
@@ -37,16 +35,12 @@ pub cells_end : (size : ℕ) (C : List Column) (i : ℕ) (s : Tuple) (b : List �
 cells_end size C i s b h = ap (λ D. cells_after s (read_cells size (map named_column D) b)) (drop_all i C h) ∙ ap (λ x. found x b) (append-nil s)
 
 -- the bytes of a header
-pub byte_there : (size due : ℕ) (b : List ℕ) → 1 ≤ length b → get_or b 0 0 ≡ due → read_header size (due ∷ []) b ≡ found tt (take (length b - 1) (drop 1 b))
-byte_there size due [] h e = absurd (omega arith)
-byte_there size due (x ∷ b) h e = rw (eq-eqb due x (sym e), rest_is (length (x ∷ b) - 1) b (omega arith))
-
 module _ (size : ℕ) (x : ℕ) (h : List ℕ) where
   tested : (t : Bool) (p : ℕ) (b : List ℕ) → cond t (read_header size h b) (bad 24 p) ≡ and_then {A = Unit {0}} (cond {A = Read (Unit {0})} t (found tt b) (bad 24 p)) (λ _ r. read_header size h r)
   tested true p b = refl
   tested false p b = refl
 
-  byte_of : (b : List ℕ) (o : Read (Unit {0})) → read_header size (x ∷ []) b ≡ o → read_header size (x ∷ h) b ≡ and_then o (λ _ r. read_header size h r)
+  pub byte_of : (b : List ℕ) (o : Read (Unit {0})) → read_header size (x ∷ []) b ≡ o → read_header size (x ∷ h) b ≡ and_then o (λ _ r. read_header size h r)
   byte_of [] o e = ap (λ y. and_then y (λ _ r. read_header size h r)) e
   byte_of (y ∷ b) o e = tested (eqb x y) (place_in size (y ∷ b)) b ∙ ap (λ z. and_then z (λ _ r. read_header size h r)) e
 
@@ -66,27 +60,3 @@ module _ (size : ℕ) (C : List Column) (i : ℕ) (here : i < length C) (c : Col
 
 pub kinds_end : (size : ℕ) (C : List Column) (i : ℕ) (b : List ℕ) → length C ≤ i → read_header size (kinds_from C i) b ≡ found tt b
 kinds_end size C i b h = ap (λ D. read_header size (kind_bytes (map named_column D)) b) (drop_all i C h)
-
--- the first two bytes of a header, and the rest
-abbrev one_on : List ℕ → List ℕ
-one_on b = take (length b - 1) (drop 1 b)
-
-one_is : (x : ℕ) (b : List ℕ) → one_on (x ∷ b) ≡ b
-one_is x b = rest_is (length (x ∷ b) - 1) b (omega arith)
-
-pub header_opens : (size n : ℕ) (h b : List ℕ) → 2 ≤ length b → get_or b 0 0 ≡ 1 → get_or b 1 0 ≡ n → read_header size (1 ∷ n ∷ h) b ≡ read_header size h (take (length b - 2) (drop 2 b))
-header_opens size n h [] l e f = absurd (omega arith)
-header_opens size n h (x ∷ []) l e f = absurd (omega arith)
-header_opens size n h (x ∷ y ∷ b) l e f = rw (eq-eqb 1 x (sym e), eq-eqb n y (sym f), rest_is (length (x ∷ y ∷ b) - 2) b (omega arith))
-
--- the byte that is due does not stand at the front
-pub not_due : (size x : ℕ) (h b : List ℕ) → (1 ≤ length b → get_or b 0 0 ≡ x → ⊥) → read_header size (x ∷ h) b ≡ bad (cond (eqb (length b) 0) 23 24) (place_in size b)
-not_due size x h [] f = ap (λ p. bad 23 p) (omega arith)
-not_due size x h (y ∷ b) f =
-    let ne : x ≡ y → ⊥ = λ e. f (omega arith) (sym e) in
-    let no : eqb (length (y ∷ b)) 0 ≡ false = ne_eqb (length (y ∷ b)) 0 (λ e. omega arith) in
-    rw (ne_eqb x y ne, no)
-
-pub count_not_due : (size n : ℕ) (h b : List ℕ) → 1 ≤ length b → get_or b 0 0 ≡ 1 → (2 ≤ length b → get_or b 1 0 ≡ n → ⊥) → read_header size (1 ∷ n ∷ h) b ≡ bad (cond (eqb (length (one_on b)) 0) 23 24) (place_in size (one_on b))
-count_not_due size n h [] l e f = absurd (omega arith)
-count_not_due size n h (x ∷ b) l e f = rw (eq-eqb 1 x (sym e), one_is x b) (not_due size n h b (λ m g. f (omega arith) g))

@@ -23,34 +23,21 @@ fn breaks_with(width: usize, d: &Dependency, s: &Row, t: &Row) -> bool
 fn breaks_one(width: usize, d: &Dependency, earlier: &[Row], row: &Row) -> bool
     ensures { result ≡ any (λ s. agrees (take width (members d.now.left)) s (tuple row.now) && not (agrees (take width (members d.now.right)) s (tuple row.now))) (tuples earlier.now) }
 {
-    for s in earlier {
-        if breaks_with(width, d, s, row) {
-            return true;
-        }
-    }
-    false
+    earlier.iter().any(|s| breaks_with(width, d, s, row))
 }
 
 fn breaks_some(width: usize, deps: &[Dependency], earlier: &[Row], row: &Row) -> bool
     ensures { result ≡ breaks (map (narrowed width) (dependencies deps.now)) (tuples earlier.now) (tuple row.now) }
 {
-    for d in deps {
-        if breaks_one(width, d, earlier, row) {
-            return true;
-        }
-    }
-    false
+    deps.iter().any(|d| breaks_one(width, d, earlier, row))
 }
 
 fn first_break_of(width: usize, deps: &[Dependency], rows: &[Row]) -> Option<usize>
     ensures { MatchOption result ((k : ℕ) → dep_fault k (map (narrowed width) (dependencies deps.now)) [] 0 (tuples rows.now) ≡ None) (λ p. (k : ℕ) → dep_fault k (map (narrowed width) (dependencies deps.now)) [] 0 (tuples rows.now) ≡ fault 20 k p) }
 {
-    for i in 0..rows.len() {
-        if breaks_some(width, deps, &rows[0..i], &rows[i]) {
-            return Some(i);
-        }
-    }
-    None
+    rows.iter()
+        .enumerate()
+        .position(|(i, row)| breaks_some(width, deps, &rows[..i], row))
 }
 
 // The first row that breaks a dependency with an earlier one.

@@ -22,12 +22,14 @@ pub(crate) const EDITION: u8 = 1;
 // What is left to read of a bank of `size` bytes, for a table of a kind.
 #[derive(Drop)]
 pub(crate) struct Cursor<'a> {
+    pub(crate) heap: Global,
     pub(crate) rest: &'a [u8],
+    // of the whole bank, so that what is left tells the place
     pub(crate) size: usize,
     pub(crate) kind: u8,
 }
 
-// The byte of a kind.
+// The byte of a kind. No `From`: it would have to stand in the crate of `Kind`, which knows no banks.
 pub(crate) fn kind_byte(kind: Kind) -> u8
     ensures { result ≡ kind_byte (kind_of kind) }
 {
@@ -52,10 +54,7 @@ fn mismatch(rest: &[u8]) -> Cause
 fn is_above(before: Option<&Row>, row: &Row) -> bool
     ensures { result ≡ above by_bytes (row_before before.entry) (tuple row.now) }
 {
-    match before {
-        Some(last) => last.is_below(row),
-        None => true,
-    }
+    before.is_none_or(|last| last.is_below(row))
 }
 
 impl<'a> Cursor<'a> {
@@ -69,35 +68,26 @@ impl<'a> Cursor<'a> {
     pub(crate) fn number(&mut self) -> Result<u32, Refusal>
         ensures { Reads (λ (n : ℕ). n) self.old.size self.old.kind self.new (read_number self.old.size (left self.old)) result }
     {
-        match numbers::number(self.rest) {
-            Some((n, rest)) => {
-                self.rest = rest;
-                Ok(n)
-            }
-            None => Err(self.bad(Cause::BadBytes)),
-        }
+        let (n, rest) = numbers::number(self.rest).ok_or(self.bad(Cause::BadBytes))?;
+        self.rest = rest;
+        Ok(n)
     }
 
-    fn text(&mut self, heap: Global) -> Result<Cell, Refusal>
+    fn text(&mut self) -> Result<Cell, Refusal>
         ensures { Reads value self.old.size self.old.kind self.new (read_cell self.old.size texts (left self.old)) result }
     {
-        let [length, bytes @ ..] = self.rest else {
-            return Err(self.bad(Cause::BadBytes));
-        };
-        let length = *length as usize;
-        if bytes.len() < length {
-            return Err(self.bad(Cause::BadBytes));
-        }
-        let (text, rest) = bytes.split_at(length);
+        let cut_off = self.bad(Cause::BadBytes);
+        let (length, bytes) = self.rest.split_first().ok_or(cut_off)?;
+        let (text, rest) = bytes.split_at_checked(usize::from(*length)).ok_or(cut_off)?;
         if !is_text(text) {
             return Err(self.bad(Cause::Size));
         }
-        let cell = Cell::from_bytes(heap, text)?;
+        let cell = Cell::from_bytes(self.heap, text)?;
         self.rest = rest;
         Ok(cell)
     }
 
-    fn cell(&mut self, heap: Global, kind: Kind) -> Result<Cell, Refusal>
+    fn cell(&mut self, kind: Kind) -> Result<Cell, Refusal>
         ensures { Reads value self.old.size self.old.kind self.new (read_cell self.old.size (kind_of kind) (left self.old)) result }
     {
         match kind {
@@ -105,27 +95,28 @@ impl<'a> Cursor<'a> {
                 let n = self.number()?;
                 Ok(Cell::Num(n))
             }
-            Kind::Text => self.text(heap),
+            Kind::Text => self.text(),
         }
     }
 
     // The cells of a row, one for each column.
-    pub(crate) fn row(&mut self, heap: Global, columns: &[Column]) -> Result<Row, Refusal>
+    pub(crate) fn row(&mut self, columns: &[Column]) -> Result<Row, Refusal>
         ensures { Reads tuple self.old.size self.old.kind self.new (read_cells self.old.size (named_columns columns.now) (left self.old)) result }
     {
-        let mut cells = Vec::new(heap);
+        let mut cells = Vec::new(self.heap);
         for c in columns {
-            let cell = self.cell(heap, c.kind)?;
+            let cell = self.cell(c.kind)?;
             cells.push(cell)?;
         }
         Ok(Row { cells })
     }
+
     // A byte that is due.
-    fn byte(&mut self, due: u8) -> Result<(), Refusal>
+    fn byte(&mut self, due: usize) -> Result<(), Refusal>
         ensures { Reads (λ (u : Unit {0}). u) self.old.size self.old.kind self.new (read_header self.old.size (due ∷ []) (left self.old)) result }
     {
         match self.rest {
-            [b, rest @ ..] if *b == due => {
+            [b, rest @ ..] if usize::from(*b) == due => {
                 self.rest = rest;
                 Ok(())
             }
@@ -138,7 +129,7 @@ impl<'a> Cursor<'a> {
         ensures { Reads (λ (u : Unit {0}). u) self.old.size self.old.kind self.new (read_header self.old.size (kind_bytes (named_columns columns.now)) (left self.old)) result }
     {
         for c in columns {
-            self.byte(kind_byte(c.kind))?;
+            self.byte(usize::from(kind_byte(c.kind)))?;
         }
         Ok(())
     }
@@ -147,17 +138,9 @@ impl<'a> Cursor<'a> {
     pub(crate) fn header(&mut self, columns: &[Column]) -> Result<(), Refusal>
         ensures { Reads (λ (u : Unit {0}). u) self.old.size self.old.kind self.new (read_header self.old.size (header (named_columns columns.now)) (left self.old)) result }
     {
-        match self.rest {
-            [EDITION, count, rest @ ..] if *count as usize == columns.len() => {
-                self.rest = rest;
-                self.kinds(columns)
-            }
-            [EDITION, rest @ ..] => {
-                self.rest = rest;
-                Err(self.bad(mismatch(rest)))
-            }
-            rest => Err(self.bad(mismatch(rest))),
-        }
+        self.byte(usize::from(EDITION))?;
+        self.byte(columns.len())?;
+        self.kinds(columns)
     }
 
     // The row count, which may not be above the room.
@@ -171,17 +154,17 @@ impl<'a> Cursor<'a> {
         }
         Ok(n)
     }
+
     // A row that is judged: it is to be above the one before, and admitted.
     fn judged_row(
         &mut self,
-        heap: Global,
         sort: &Sort,
         before: Option<&Row>,
         index: usize,
     ) -> Result<Row, Refusal>
         ensures { Reads tuple self.old.size self.old.kind self.new (read_row self.old.size (sort_of sort.now) (row_before before.entry) index (left self.old)) result }
     {
-        let row = self.row(heap, sort.columns())?;
+        let row = self.row(sort.columns())?;
         if !is_above(before, &row) {
             return Err(refused(Cause::Order, self.kind, index));
         }
@@ -192,33 +175,24 @@ impl<'a> Cursor<'a> {
     }
 
     // So many rows.
-    pub(crate) fn rows(
-        &mut self,
-        heap: Global,
-        sort: &Sort,
-        count: usize,
-    ) -> Result<Vec<Row>, Refusal>
+    pub(crate) fn rows(&mut self, sort: &Sort, count: usize) -> Result<Vec<Row>, Refusal>
         ensures { Reads held self.old.size self.old.kind self.new (read_rows self.old.size (sort_of sort.now) None 0 count (left self.old)) result }
     {
-        let mut rows = Vec::new(heap);
+        let mut rows = Vec::new(self.heap);
         for i in 0..count {
-            let row = self.judged_row(heap, sort, rows.last(), i)?;
+            let row = self.judged_row(sort, rows.last(), i)?;
             rows.push(row)?;
         }
         Ok(rows)
     }
+
     // The fields of a bank, to its end.
-    pub(crate) fn fields(
-        &mut self,
-        heap: Global,
-        sort: &Sort,
-        room: usize,
-    ) -> Result<Vec<Row>, Refusal>
+    pub(crate) fn fields(&mut self, sort: &Sort, room: usize) -> Result<Vec<Row>, Refusal>
         ensures { Reads held self.old.size self.old.kind self.new (read_fields self.old.size (sort_of sort.now) room (left self.old)) result }
     {
         self.header(sort.columns())?;
         let count = self.count(room)?;
-        let rows = self.rows(heap, sort, count)?;
+        let rows = self.rows(sort, count)?;
         if !self.rest.is_empty() {
             return Err(self.bad(Cause::BadBytes));
         }

@@ -9,7 +9,7 @@ use cells::{Cause, Refusal, Row, refused};
 use sorts::Sort;
 use std::alloc::Global;
 
-// The rows of a bank, for a table of that kind, sort and room.
+// The rows of a bank, for a table of that kind, sort and room. No other function takes the three.
 pub fn read_bank(
     heap: Global,
     kind: u8,
@@ -20,11 +20,12 @@ pub fn read_bank(
     ensures { AnswersBank (read_bank kind (sort_of sort.now) room bytes.now) result }
 {
     let mut cursor = Cursor {
+        heap,
         rest: bytes,
         size: bytes.len(),
         kind,
     };
-    let rows = cursor.fields(heap, sort, room)?;
+    let rows = cursor.fields(sort, room)?;
     match first_break(sort, &rows) {
         Some(row) => Err(refused(Cause::Dependency, kind, row)),
         None => Ok(rows),

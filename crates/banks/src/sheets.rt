@@ -8,7 +8,7 @@ ghost use Rattle.banks.specs.Sheets.{ReadInto, WrittenTo, relation, store};
 use crate::reading::read_bank;
 use crate::sheet::Sheet;
 use crate::writing::put_bank;
-use cells::{Cause, Refusal, Row, refused};
+use cells::{Cause, Refusal, Row};
 use sorts::Sort;
 use std::alloc::Global;
 
@@ -48,7 +48,7 @@ impl Sheet {
         put_bank(&mut bytes, self.sort.columns(), &self.rows)?;
         let n = bytes.len();
         if out.len() < n {
-            return Err(refused(Cause::FewBytes, 0, 0));
+            return Err(Refusal::of(Cause::FewBytes));
         }
         out[0..n].copy_from_slice(&bytes);
         Ok(n)

@@ -1,9 +1,9 @@
 use crate::numbers::{number, put_number};
 use crate::reading::read_bank;
 use crate::sheet::Sheet;
-use cells::{Cause, Cell, Kind, Refusal, Word};
+use cells::{Cause, Cell, Kind, Refusal, Word, refused};
 use columns::Column;
-use conditions::{Comparison, Written};
+use conditions::{Comparison, Scope, Written};
 use sorts::{Description, NewColumn, Sort};
 use std::alloc::Global;
 use std::test::Fail;
@@ -39,18 +39,22 @@ const GLASS: [u8; 13] = [
 
 #[test]
 fn groups(rt: HostRuntime) -> Result<(), Fail> {
-    let limits = [0, 127, 128, 16383, 16384, 2097151, 2097152, 268435455];
-    let widths = [1, 1, 2, 2, 3, 3, 4, 4];
-    for i in 0..8 {
-        let n = limits[i];
+    for (n, width) in [
+        (0, 1),
+        (127, 1),
+        (128, 2),
+        (16383, 2),
+        (16384, 3),
+        (2097151, 3),
+        (2097152, 4),
+        (268435455, 4),
+    ] {
         assert!(rt; n <= 268435455);
         let mut out = Vec::new(rt.alloc());
         put_number(&mut out, n)?;
-        assert!(rt; out.len() == widths[i]);
-        match number(&out) {
-            Some((m, rest)) => assert!(rt; m == n && rest.is_empty()),
-            None => return Err(Fail::new("no number")),
-        }
+        assert!(rt; out.len() == width);
+        let (m, rest) = number(&out).ok_or_else(|| Fail::new("no number"))?;
+        assert!(rt; m == n && rest.is_empty());
     }
     Ok(())
 }
@@ -63,13 +67,9 @@ fn written(rt: HostRuntime) -> Result<(), Fail> {
     let mut out = [9u8; 14];
     assert_eq!(rt; sheet.write_bank(heap, &mut out)?, 13);
     assert!(rt; &out[0..13] == &GLASS[0..13] && out[13] == 9);
-    match sheet.write_bank(heap, &mut out[0..12]) {
-        Err(Refusal::Fault(fault)) => {
-            assert!(rt; fault.cause == Cause::FewBytes && fault.kind == 0 && fault.place == 0);
-            Ok(())
-        },
-        _ => Err(Fail::new("accepted")),
-    }
+    let refusal = sheet.write_bank(heap, &mut out[0..12]).err();
+    assert_eq!(rt; refusal, Some(refused(Cause::FewBytes, 0, 0)));
+    Ok(())
 }
 
 #[test]
@@ -111,13 +111,8 @@ fn refusals(rt: HostRuntime) -> Result<(), Fail> {
         ),
     ];
     for (bytes, cause, place) in cases {
-        match read_bank(heap, 2, &sort, 4, bytes) {
-            Err(Refusal::Fault(fault)) => {
-                assert!(rt; fault.kind == 2 && fault.place == place);
-                assert_eq!(rt; fault.cause, cause);
-            }
-            _ => return Err(Fail::new("accepted")),
-        }
+        let refusal = read_bank(heap, 2, &sort, 4, bytes).err();
+        assert_eq!(rt; refusal, Some(refused(cause, 2, place)));
     }
     Ok(())
 }
@@ -134,13 +129,14 @@ fn not_admitted(rt: HostRuntime) -> Result<(), Fail> {
     let kind = Kind::Num;
     columns.push(Column { word, kind })?;
     let limit = Cell::Num(200);
-    let shorter = Written::with_cell(&columns, b"length", Comparison::Less, limit, 0, 0)?;
+    let scope = Scope {
+        columns: &columns,
+        kind: 0,
+        place: 0,
+    };
+    let shorter = Written::with_cell(scope, b"length", Comparison::Less, limit)?;
     songs.add_condition(heap, shorter)?;
-    match read_bank(heap, 2, &songs.seal(), 4, &GLASS) {
-        Err(Refusal::Fault(fault)) => {
-            assert!(rt; fault.cause == Cause::NotAdmitted && fault.kind == 2 && fault.place == 0);
-            Ok(())
-        },
-        _ => Err(Fail::new("accepted")),
-    }
+    let refusal = read_bank(heap, 2, &songs.seal(), 4, &GLASS).err();
+    assert_eq!(rt; refusal, Some(refused(Cause::NotAdmitted, 2, 0)));
+    Ok(())
 }

@@ -1,15 +1,25 @@
-use Rattle.std.proofs.Common.{rules}
-use Rattle.banks.proofs.Fronts.{read1, read2, read3, read4}
+use Rattle.std.proofs.Common.{◌≡◌, suc, ◌+◌, ◌-◌, ◌*◌, ◌∷◌, sym, ap, ◌∙◌, arith, rules}
+use Rattle.model.specs.Banks.{read_groups}
+use Rattle.banks.proofs.Fronts.{next_group}
 use Rattle.banks.proofs.numbers.number.Goals as goal
 
-pub returns-in-len1-up : goal.returns-in-len1-up
-returns-in-len1-up c = search (rules, read1)
-
-pub returns-in-len2-up : goal.returns-in-len2-up
-returns-in-len2-up c = search (rules, read2)
-
-pub returns-in-len3-up : goal.returns-in-len3-up
-returns-in-len3-up c = search (rules, read3)
-
-pub returns-in-len4-up : goal.returns-in-len4-up
-returns-in-len4-up c = search (rules, read4)
+pub loop-preserved : goal.loop-preserved
+loop-preserved c =
+    let k = c.loop.counter in
+    let n = c.loop.n in
+    let g = c.in_ok-group.group.now in
+    let after = c.in_ok-group.after.now in
+    let front : c.loop.rest.now ≡ g ∷ after = search rules in
+    let left : suc (4 - (k + 1)) ≡ 4 - k = omega arith in
+    record {
+      none = λ h. omega arith;
+      one = λ h. omega arith;
+      two = λ h. omega arith;
+      three = λ h. omega arith;
+      left =
+          ap (λ x. read_groups (4 - (k + 1)) (n * 128 + x) after) c.from.ensures
+          ∙ sym (next_group (4 - (k + 1)) n g after (omega arith) (omega arith))
+          ∙ ap (λ m. read_groups m n (g ∷ after)) left
+          ∙ ap (read_groups (4 - k) n) (sym front)
+          ∙ c.loop.invariant.left;
+    }

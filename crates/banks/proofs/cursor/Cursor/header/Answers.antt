@@ -1,28 +1,39 @@
-use Rattle.std.proofs.Common.{◌-◌, length, take, drop, sym, refl, ap, ◌∙◌, rules}
+use Rattle.std.proofs.Common.{◌≡◌, [], ◌∷◌, length, Err, sym, refl, ap, ◌∙◌}
 use lib.ListN.{length-map}
-use Rattle.model.specs.Banks.{bad, place_in}
+use Rattle.std.proofs.lemmas.Result.{err_from_is_err_and}
+use Rattle.model.specs.Banks.{read_header, header, found, bad}
 use Rattle.columns.specs.Named.{named_column, named_columns}
 use Rattle.banks.specs.Fields.{kind_bytes}
-use Rattle.banks.proofs.Texts.{refuses, answered}
-use Rattle.banks.proofs.Loops.{header_opens, count_not_due}
+use Rattle.banks.proofs.Texts.{answered, passed_on}
+use Rattle.banks.proofs.Loops.{byte_of}
 use Rattle.banks.proofs.cursor.Cursor.header.Goals as goal
-use Rattle.banks.proofs.cursor.Cursor.header.Goals.{then-this-lt2+in-1-1, in-1+else-count-columns}
 
-pub returns-in-1 : goal.returns-in-1
-returns-in-1 c =
-    let size = c.args.self.now.size in
-    let b = c.args.self.now.rest.now in
+pub returns-in_err-byte-2 : goal.returns-in_err-byte-2
+returns-in_err-byte-2 c =
+    let was = c.args.self.now in
+    let next = c.byte.new.self in
     let C = named_columns c.args.columns.now in
-    answered (λ (u : Unit {0}). u) size c.args.self.now.kind c.kinds.new.self _ _ c.kinds.result c.kinds.ensures
-    (header_opens size (length C) (kind_bytes C) b (search rules) (search rules) (c.if-count-columns.true ∙ sym (length-map c.args.columns.now named_column)))
+    let first = c.in_ok-byte.ensures in
+    let p = err_from_is_err_and c.from_residual-in_err-byte-2.result c.from_residual-in_err-byte-2.ensures.1 in
+    let wide : length c.args.columns.now ≡ length C = sym (length-map c.args.columns.now named_column) in
+    let start : read_header was.size (1 ∷ []) was.rest.now ≡ found tt next.rest.now = ap (λ n. read_header was.size (n ∷ []) was.rest.now) (sym c.from.ensures) ∙ first.0 in
+    let opens : read_header was.size (header C) was.rest.now ≡ read_header next.size (length c.args.columns.now ∷ kind_bytes C) next.rest.now =
+    byte_of was.size 1 (length C ∷ kind_bytes C) was.rest.now (found tt next.rest.now) start ∙ rw (first.1, wide) refl in
+    passed_on (λ (u : Unit {0}). u) next.kind was.size was.kind c.byte-2.new.self (read_header next.size (length c.args.columns.now ∷ []) next.rest.now) (read_header was.size (header C) was.rest.now) c.in_err-byte-2.field-0.0 c.from_residual-in_err-byte-2.result
+    c.in_err-byte-2.ensures
+    (λ n q e. opens ∙ byte_of next.size (length c.args.columns.now) (kind_bytes C) next.rest.now (bad n q) e) first.2 (p.1 ∙ ap Err p.2)
 
-pub returns-in-1-2 : goal.returns-in-1-2
-returns-in-1-2 c =
-    let size = c.args.self.now.size in
-    let b = c.args.self.now.rest.now in
+pub returns : goal.returns
+returns c =
+    let was = c.args.self.now in
+    let next = c.byte.new.self in
+    let last = c.byte-2.new.self in
     let C = named_columns c.args.columns.now in
-    let r = take (length b - 1) (drop 1 b) in
-    let same = length-map c.args.columns.now named_column in
-    refuses c.args.self.now.kind _ c.bad.result _ c.bad.ensures
-    (count_not_due size (length C) (kind_bytes C) b (search rules) (search rules)
-    (elim c.in-1-2-1.branch [ then-this-lt2+in-1-1 w ↦ λ l e. search rules | in-1+else-count-columns w ↦ λ l e. w.if-count-columns.false (e ∙ same) ]) ∙ ap (λ n. bad n (place_in size r)) (sym c.mismatch.ensures)) refl
+    let first = c.in_ok-byte.ensures in
+    let second = c.in_ok-byte-2.ensures in
+    let wide : length c.args.columns.now ≡ length C = sym (length-map c.args.columns.now named_column) in
+    let start : read_header was.size (1 ∷ []) was.rest.now ≡ found tt next.rest.now = ap (λ n. read_header was.size (n ∷ []) was.rest.now) (sym c.from.ensures) ∙ first.0 in
+    let opens : read_header was.size (header C) was.rest.now ≡ read_header next.size (length c.args.columns.now ∷ kind_bytes C) next.rest.now =
+    byte_of was.size 1 (length C ∷ kind_bytes C) was.rest.now (found tt next.rest.now) start ∙ rw (first.1, wide) refl in
+    answered (λ (u : Unit {0}). u) was.size last.size was.kind last.kind c.kinds.new.self (read_header last.size (kind_bytes C) last.rest.now) _ c.kinds.result c.kinds.ensures (second.1 ∙ first.1) (second.2 ∙ first.2)
+    (opens ∙ byte_of next.size (length c.args.columns.now) (kind_bytes C) next.rest.now (found tt last.rest.now) second.0 ∙ ap (λ n. read_header n (kind_bytes C) last.rest.now) (sym second.1))

@@ -1,0 +1,6 @@
+use Rattle.std.proofs.Common.{◌≡◌, ◌++◌, take, vec_items}
+use Rattle.std.specs.List.{flat_map}
+use Rattle.banks.proofs.writing.put_all.Given as goal
+
+abbrev pub invariant-loop-item : goal.invariant-loop-item
+invariant-loop-item g l = vec_items l.out ≡ vec_items l.initial.out ++ flat_map g.T.Coded.code (take l.item-index l.items)
