@@ -1,43 +1,49 @@
 -- Decimal digits and the number that they write.
-use Rattle.std.proofs.Common.{◌≡◌, ℕ, zero, suc, ◌-◌, ◌<◌, ◌≤◌, true, false, ◌&&◌, leb, List, [], ◌∷◌, length, get_or, take, Some, None, sym, ap, ◌∙◌, arith}
-use Rattle.std.specs.Str.Parse.{digits_value, AllDigits}
-use Rattle.std.specs.Char.{is_ascii_digit, digit_value}
-use Rattle.std.specs.Str.{all_ascii_digits}
-use Rattle.std.proofs.lemmas.List.{length-take-le}
-use Rattle.std.proofs.lemmas.Str.Parse.{numerals_by_value, tells_digits, tells_all_ascii_digits, digits_value_short}
-use Rattle.std.proofs.lemmas.Bool.{cond-true, cond-false, le-leb, lt-leb, and_from, and_left, and_right}
+use Rattle.std.proofs.Common.{◌≡◌, ℕ, zero, suc, ◌^◌, ◌<◌, Bool, true, false, ◌&&◌, leb, ltb, List, [], ◌∷◌, length, get_or, Some, None, Ok, Err, Result, sym, refl, ap, arith}
+use Rattle.std.specs.Str.Parse.{digits_value, ParsesUnsigned}
+use Rattle.std.specs.Char.{is_ascii_digit}
+use Rattle.std.specs.Str.{all_ascii_digits, IsUtf8}
+use Rattle.std.specs.List.{list_all}
+use Rattle.std.specs.Result.{result_ok}
+use Rattle.std.proofs.lemmas.Option.{none-some}
+use Rattle.std.proofs.lemmas.Str.{IsUtf8-from_ascii}
+use Rattle.std.proofs.lemmas.Str.Parse.{numerals_by_value, tells_all_ascii_digits, parse_digits}
+use Rattle.std.proofs.lemmas.Bool.{cond-false, lt-leb, and_left, and_right, and_parts, leb-true, ltb-true, ltb-false}
 use Rattle.std.proofs.lemmas.Bool.Decides.{nat_tests}
 use Rattle.commands.specs.Spelling.{numeral}
 
--- nine digits write less than a thousand million
-pub front_small : (w : List ℕ) (i : ℕ) → i < length w → length w ≤ 10 → AllDigits 10 (take i w) → digits_value 10 (take i w) < 1000000000
-front_small w i lt le h =
-    digits_value_short (numerals_by_value (AllDigits 10) tells_digits) (take i w) 9 h (omega (arith, length-take-le i w (omega arith)))
+pub all_digits : (w : List ℕ) → list_all is_ascii_digit w ≡ all_ascii_digits w
+all_digits [] = refl
+all_digits (c ∷ w) = ap (λ t. is_ascii_digit c && t) (all_digits w)
 
-pub digit_is : (c : ℕ) → is_ascii_digit c ≡ true → digit_value c ≡ c - 48
-digit_is c e = grind (arith, nat_tests)
+digit_ascii : (c : ℕ) → is_ascii_digit c ≡ true → c < 128
+digit_ascii c e = grind (arith, nat_tests)
 
-pub digit_under : (c : ℕ) → is_ascii_digit c ≡ true → digit_value c < 10
-digit_under c e = grind (arith, nat_tests)
+digits_ascii : (w : List ℕ) → all_ascii_digits w ≡ true → (i : ℕ) → get_or w i 0 < 128
+digits_ascii [] e i = omega arith
+digits_ascii (c ∷ w) e zero = digit_ascii c (and_parts (is_ascii_digit c) (all_ascii_digits w) e).0
+digits_ascii (c ∷ w) e (suc i) = digits_ascii w (and_parts (is_ascii_digit c) (all_ascii_digits w) e).1 i
 
-pub not_all : (w : List ℕ) (i : ℕ) → i < length w → is_ascii_digit (get_or w i 0) ≡ false → all_ascii_digits w ≡ false
-not_all [] i h e = absurd (omega arith)
-not_all (c ∷ w) zero h e = and_left (is_ascii_digit c) (all_ascii_digits w) e
-not_all (c ∷ w) (suc i) h e = and_right (is_ascii_digit c) (all_ascii_digits w) (not_all w i (omega arith) e)
+pub digits_text : (w : List ℕ) → all_ascii_digits w ≡ true → IsUtf8 w
+digits_text w e = IsUtf8-from_ascii w (digits_ascii w e)
 
 pub numeral_none : (limit : ℕ) (w : List ℕ) → (leb 1 (length w) && (leb (length w) 10 && (all_ascii_digits w && leb (digits_value 10 w) limit))) ≡ false → None ≡ numeral limit w
 numeral_none limit w e = sym (cond-false _ (Some (digits_value 10 w)) None e)
-
-pub numeral_not_digits : (limit : ℕ) (w : List ℕ) (i : ℕ) → i < length w → is_ascii_digit (get_or w i 0) ≡ false → None ≡ numeral limit w
-numeral_not_digits limit w i h e =
-    numeral_none limit w (and_right (leb 1 (length w)) _ (and_right (leb (length w) 10) _ (and_left (all_ascii_digits w) _ (not_all w i h e))))
 
 pub numeral_above : (limit : ℕ) (w : List ℕ) → limit < digits_value 10 w → None ≡ numeral limit w
 numeral_above limit w h =
     numeral_none limit w (and_right (leb 1 (length w)) _ (and_right (leb (length w) 10) _ (and_right (all_ascii_digits w) _ (lt-leb (digits_value 10 w) limit h))))
 
-pub numeral_some : (limit : ℕ) (w : List ℕ) (n : ℕ) → 1 ≤ length w → length w ≤ 10 → AllDigits 10 w → n ≡ digits_value 10 w → n ≤ limit → Some n ≡ numeral limit w
-numeral_some limit w n a b d e h =
-    let digits : all_ascii_digits w ≡ true = (numerals_by_value (λ ds. all_ascii_digits ds ≡ true) tells_all_ascii_digits).from w d in
-    let fits : leb (digits_value 10 w) limit ≡ true = le-leb (digits_value 10 w) limit (omega arith) in
-    ap Some e ∙ sym (cond-true (leb 1 (length w) && (leb (length w) 10 && (all_ascii_digits w && leb (digits_value 10 w) limit))) (Some (digits_value 10 w)) None (and_from (leb 1 (length w)) _ (le-leb 1 (length w) a) (and_from (leb (length w) 10) _ (le-leb (length w) 10 b) (and_from (all_ascii_digits w) _ digits fits))))
+-- digits that are not read as a number write none within a limit of 32 bits
+pub numeral_unread : {E : Type 0} (limit : ℕ) (w : List ℕ) (r : Result ℕ E) → ParsesUnsigned 32 10 w r → all_ascii_digits w ≡ true → limit < 2 ^ 32 → result_ok r ≡ None → None ≡ numeral limit w
+numeral_unread limit w (Ok n) h d l e = absurd (none-some n (sym e))
+numeral_unread limit w (Err x) h d l e =
+    by (leb 1 (length w)) refl (parse_digits (numerals_by_value (λ ds. all_ascii_digits ds ≡ true) tells_all_ascii_digits) 32 w (Err x) h d)
+  where
+    by : (t : Bool) → leb 1 (length w) ≡ t → ((0 < length w) × (digits_value 10 w < 2 ^ 32) → ⊥) → None ≡ numeral limit w
+    by false n fails = numeral_none limit w (and_left (leb 1 (length w)) _ n)
+    by true n fails = large (ltb (digits_value 10 w) (2 ^ 32)) refl
+      where
+        large : (t : Bool) → ltb (digits_value 10 w) (2 ^ 32) ≡ t → None ≡ numeral limit w
+        large true v = absurd (fails (omega (arith, leb-true 1 (length w) n), ltb-true (digits_value 10 w) (2 ^ 32) v))
+        large false v = numeral_above limit w (omega (arith, ltb-false (digits_value 10 w) (2 ^ 32) v))

@@ -1,7 +1,7 @@
 -- What a line asks for: the words of each command, and how they must be.
 use Rattle.std.specs.Prelude.{ℕ, Bool, cond, not, List, [], ◌∷◌, map, Some, None, vec_items, codes, Option}
 use Rattle.std.specs.Option.{option_map}
-use Rattle.model.specs.Values.{any, same_bytes}
+use Rattle.model.specs.Values.{any, find, same_bytes}
 use Rattle.model.specs.Sorts as model
 use Rattle.sorts.specs.Offered.{offered_column}
 use Rattle.commands.specs.declared.parsing.Storage.{Storage}
@@ -158,12 +158,8 @@ abbrev pub verbs : List Verb
 verbs = verb.Help ∷ verb.Fresh ∷ verb.Table ∷ verb.Column ∷ verb.Dep ∷ verb.Seal ∷ verb.Load ∷ verb.Bank ∷ verb.Rows ∷ verb.Read ∷ verb.Write ∷ verb.Try ∷ verb.Put ∷ []
 
 -- the command that a word is the spelling of
-abbrev pub verb_among : List Verb → Word → Option Verb
-verb_among [] w = None
-verb_among (v ∷ vs) w = cond (same_bytes w (spelling v)) (Some v) (verb_among vs w)
-
 abbrev pub verb_of : Word → Option Verb
-verb_of w = verb_among verbs w
+verb_of w = find (λ v. same_bytes w (spelling v)) verbs
 
 -- What a line is: skipped, a command, or a bad line.
 pub data Meaning : Type 0 where

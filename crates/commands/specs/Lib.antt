@@ -3,3 +3,4 @@ pub mod Spelling
 pub mod Lines
 pub mod Grammar
 pub mod Forms
+pub mod Readings

@@ -5,8 +5,6 @@ use Rattle.std.specs.Option.{option_map}
 use Rattle.model.specs.Values.{every, tail}
 use Rattle.commands.specs.declared.tokens.Token.{Token}
 use Rattle.commands.specs.declared.tokens.Token.TheVariants.{Plain, Quoted}
-use Rattle.commands.specs.declared.tokens.Class.{Class}
-use Rattle.commands.specs.declared.tokens.Class.TheVariants.{Sign, Held, Dense, Line}
 use Rattle.commands.specs.Lists.{front, behind, and_then, each}
 
 -- A token is a text in quotes, by the bytes between them, or any other run of bytes.
@@ -27,12 +25,6 @@ is_quote b = b == 0x22
 -- a byte of a plain token: from 21 to 7E hexadecimal, but no quote
 abbrev pub is_sign : ℕ → Bool
 is_sign b = nat_le 0x21 b && (nat_le b 0x7E && not (is_quote b))
-
-abbrev pub within : Class → ℕ → Bool
-within Sign b = is_sign b
-within Held b = not (is_quote b)
-within Dense b = not (is_space b)
-within Line b = not (b == 0x0A)
 
 -- a token may end where the text ends, and before a space
 abbrev pub bounded : List ℕ → Bool
@@ -86,17 +78,17 @@ words_of l = and_then (tokens_of l) (λ ts. each plain_word ts)
 
 -- A line ends with 0A hexadecimal, or with the text.
 abbrev pub first_line : List ℕ → List ℕ
-first_line l = front (within Line) l
+first_line l = front (λ b. not (b == 0x0A)) l
 
 abbrev pub later_lines : List ℕ → List ℕ
-later_lines l = tail (behind (within Line) l)
+later_lines l = tail (behind (λ b. not (b == 0x0A)) l)
 
 -- The command is what stands before the first space; its arguments stand behind.
 abbrev pub command_word : List ℕ → List ℕ
-command_word l = front (within Dense) l
+command_word l = front (λ b. not (is_space b)) l
 
 abbrev pub arguments_of : List ℕ → List ℕ
-arguments_of l = behind (within Dense) l
+arguments_of l = behind (λ b. not (is_space b)) l
 
 -- A line is skipped when it is empty, holds only spaces, or begins with #.
 abbrev pub is_comment : List ℕ → Bool

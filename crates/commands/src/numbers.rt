@@ -1,50 +1,39 @@
-// Numbers and hexadecimal pairs.
+//! Numbers and hexadecimal pairs.
 ghost use Rattle.std.specs.Prelude.{◌≡◌};
+ghost use Rattle.std.specs.Str.{all_ascii_digits};
 ghost use Rattle.commands.specs.Spelling.{numeral, hex_digit, hex_pair};
+
+fn is_digits(word: &[u8]) -> bool
+    ensures { result ≡ all_ascii_digits word.now }
+{
+    word.iter().all(|b| b.is_ascii_digit())
+}
 
 // The number that 1 to 10 digits write, if it is at most `limit`.
 pub fn number(word: &[u8], limit: u32) -> Option<u32>
     ensures { result ≡ numeral limit word.now }
 {
-    if word.is_empty() || word.len() > 10 {
+    if word.len() > 10 || !is_digits(word) {
         return None;
     }
-    let mut n: u64 = 0;
-    for b in word {
-        if !b.is_ascii_digit() {
-            return None;
-        }
-        n = n * 10 + u64::from(*b - b'0');
-    }
-    if n > u64::from(limit) {
-        return None;
-    }
-    Some(n as u32)
+    let n = std::str::from_utf8(word).ok()?.parse::<u32>().ok()?;
+    (n <= limit).then_some(n)
 }
 
 fn hex_digit(b: u8) -> Option<u8>
     ensures { result ≡ hex_digit b }
 {
-    match b {
-        b'0'..=b'9' => Some(b - b'0'),
-        b'A'..=b'F' => Some(b - b'A' + 10),
-        b'a'..=b'f' => Some(b - b'a' + 10),
-        _ => None,
-    }
+    char::from(b).to_digit(16).map(|d| d as u8)
 }
 
 // The byte that two hexadecimal digits write.
 pub fn hex_pair(word: &[u8]) -> Option<u8>
     ensures { result ≡ hex_pair word.now }
 {
-    let [high, low] = word else {
+    let &[high, low] = word else {
         return None;
     };
-    let Some(h) = hex_digit(*high) else {
-        return None;
-    };
-    let Some(l) = hex_digit(*low) else {
-        return None;
-    };
+    let h = hex_digit(high)?;
+    let l = hex_digit(low)?;
     Some(h * 16 + l)
 }

@@ -1,20 +1,20 @@
-// Commands, and lines read as commands.
-ghost use Rattle.std.specs.Prelude.{◌≡◌, map, length, IfOk, vec_items};
+//! Commands, and lines read as commands.
+ghost use Rattle.std.specs.Prelude.{◌≡◌, map, IfOk};
 ghost use Rattle.std.specs.Option.{option_map};
 ghost use Rattle.cells.specs.Held.{kind_of};
 ghost use Rattle.sorts.specs.Offered.{offered_column};
-ghost use Rattle.model.specs.Values.{every, same_bytes};
-ghost use Rattle.commands.specs.Lists.{each, front};
-ghost use Rattle.commands.specs.Spelling.{hex_pair};
+ghost use Rattle.model.specs.Values.{every};
 ghost use Rattle.commands.specs.Lines.{is_comment, is_space, texts};
-ghost use Rattle.commands.specs.Forms.{kind_said, storage_said, heading_said, headings_said};
-ghost use Rattle.commands.specs.Forms.{table_said, no_arrow, dep_said, load_said, column_said, bank_said};
-ghost use Rattle.commands.specs.Forms.{rows_said, read_said, write_said, count_said, try_said, put_said};
-ghost use Rattle.commands.specs.Forms.{spelling, verb_of, says, asked, none_after, meaning, meant};
+ghost use Rattle.commands.specs.Readings.{ReadsAs};
+ghost use Rattle.commands.specs.Forms.{kind_said, storage_said, heading_said, headings_said, table_said, dep_said};
+ghost use Rattle.commands.specs.Forms.{is_arrow, verb_of, says, asked, command_of, meaning, meant};
 
+use crate::lists::each;
 use crate::numbers::{hex_pair, number};
 use crate::tokens::{split_command, words};
+use crate::unread::Unread;
 use cells::Kind;
+use runs::split_run;
 use sorts::NewColumn;
 use std::alloc::{AllocError, Global};
 
@@ -70,7 +70,7 @@ pub enum Command<'a> {
     },
 }
 
-// What a line is: passed over, a command, or neither.
+// What a line is: passed over, a command, or neither. (An option in a result would leave the first without a name.)
 #[derive(Drop)]
 pub enum Line<'a> {
     Skipped,
@@ -78,6 +78,7 @@ pub enum Line<'a> {
     Bad,
 }
 
+// The verb alone, so that an unknown one is told before any word takes memory.
 #[derive(Clone, Copy)]
 enum Verb {
     Help,
@@ -99,329 +100,155 @@ const SIZE_LIMIT: u32 = 65535;
 
 const COUNT_LIMIT: u32 = 999;
 
-// How a command is spelt.
-fn name_of(verb: Verb) -> &'static str
-    ensures { result.now ≡ spelling verb }
-{
-    match verb {
-        Verb::Help => "help",
-        Verb::Fresh => "fresh",
-        Verb::Table => "table",
-        Verb::Column => "column",
-        Verb::Dep => "dep",
-        Verb::Seal => "seal",
-        Verb::Load => "load",
-        Verb::Bank => "bank",
-        Verb::Rows => "rows",
-        Verb::Read => "read",
-        Verb::Write => "write",
-        Verb::Try => "try",
-        Verb::Put => "put",
-    }
-}
-
-fn is_spelt(word: &[u8], name: &str) -> bool
-    ensures { result ≡ same_bytes word.now name.now }
-{
-    word == name.as_bytes()
-}
-
 fn verb_of(word: &[u8]) -> Option<Verb>
     ensures { result ≡ verb_of word.now }
 {
-    let verbs = [
-        Verb::Help,
-        Verb::Fresh,
-        Verb::Table,
-        Verb::Column,
-        Verb::Dep,
-        Verb::Seal,
-        Verb::Load,
-        Verb::Bank,
-        Verb::Rows,
-        Verb::Read,
-        Verb::Write,
-        Verb::Try,
-        Verb::Put,
-    ];
-    for verb in &verbs {
-        if is_spelt(word, name_of(*verb)) {
-            return Some(*verb);
-        }
+    match word {
+        b"help" => Some(Verb::Help),
+        b"fresh" => Some(Verb::Fresh),
+        b"table" => Some(Verb::Table),
+        b"column" => Some(Verb::Column),
+        b"dep" => Some(Verb::Dep),
+        b"seal" => Some(Verb::Seal),
+        b"load" => Some(Verb::Load),
+        b"bank" => Some(Verb::Bank),
+        b"rows" => Some(Verb::Rows),
+        b"read" => Some(Verb::Read),
+        b"write" => Some(Verb::Write),
+        b"try" => Some(Verb::Try),
+        b"put" => Some(Verb::Put),
+        _ => None,
     }
-    None
 }
 
+// No `TryFrom`: it would have to stand in the crate of `Kind`, which knows no lines.
 fn kind_named(word: &[u8]) -> Option<Kind>
     ensures { option_map kind_of result ≡ kind_said word.now }
 {
-    if is_spelt(word, "num") {
-        Some(Kind::Num)
-    } else if is_spelt(word, "text") {
-        Some(Kind::Text)
-    } else {
-        None
+    match word {
+        b"num" => Some(Kind::Num),
+        b"text" => Some(Kind::Text),
+        _ => None,
     }
 }
 
 fn storage_named(word: &[u8], size: &[u8]) -> Option<Storage>
     ensures { result ≡ storage_said word.now size.now }
 {
-    let Some(n) = number(size, SIZE_LIMIT) else {
-        return None;
-    };
-    if is_spelt(word, "slot") {
-        Some(Storage::Slots(n))
-    } else if is_spelt(word, "image") {
-        Some(Storage::Image(n))
-    } else {
-        None
+    let size = number(size, SIZE_LIMIT)?;
+    match word {
+        b"slot" => Some(Storage::Slots(size)),
+        b"image" => Some(Storage::Image(size)),
+        _ => None,
     }
 }
 
 fn column_named<'a>(word: &'a [u8], kind: &[u8]) -> Option<NewColumn<'a>>
     ensures { option_map offered_column result ≡ heading_said word.now kind.now }
 {
-    let Some(kind) = kind_named(kind) else {
-        return None;
-    };
-    Some(NewColumn { word, kind })
+    kind_named(kind).map(|kind| NewColumn { word, kind })
 }
 
 // Pairs of a word and a kind.
-fn columns_named<'a>(
-    heap: Global,
-    words: &[&'a [u8]],
-) -> Result<Option<Vec<NewColumn<'a>>>, AllocError>
-    ensures { IfOk result (λ o. option_map (λ v. map offered_column v.items) o ≡ headings_said (texts words.now)) }
+fn columns_named<'a>(heap: Global, words: &[&'a [u8]]) -> Result<Vec<NewColumn<'a>>, Unread>
+    ensures { ReadsAs result (λ v. map offered_column v.items) (headings_said (texts words.now)) }
 {
-    let mut columns = Vec::new(heap);
-    let mut rest = words;
-    while !rest.is_empty() {
-        let [word, kind, after @ ..] = rest else {
-            return Ok(None);
-        };
-        let Some(column) = column_named(*word, *kind) else {
-            return Ok(None);
-        };
-        columns.push(column)?;
-        rest = after;
+    let (pairs, rest) = words.as_chunks::<2>();
+    if !rest.is_empty() {
+        return Err(Unread::Malformed);
     }
-    Ok(Some(columns))
+    each(heap, pairs, |&[word, kind]| column_named(word, kind))
 }
 
-fn table<'a>(heap: Global, words: &[&'a [u8]]) -> Result<Option<Command<'a>>, AllocError>
-    ensures { IfOk result (λ o. option_map asked o ≡ table_said (texts words.now)) }
+fn table<'a>(heap: Global, words: &[&'a [u8]]) -> Result<Command<'a>, Unread>
+    ensures { ReadsAs result asked (table_said (texts words.now)) }
 {
-    let [name, word, size, room, rest @ ..] = words else {
-        return Ok(None);
+    let &[name, word, size, room, ref columns @ ..] = words else {
+        return Err(Unread::Malformed);
     };
-    let Some(storage) = storage_named(*word, *size) else {
-        return Ok(None);
-    };
-    let Some(room) = number(*room, SIZE_LIMIT) else {
-        return Ok(None);
-    };
-    let Some(columns) = columns_named(heap, rest)? else {
-        return Ok(None);
-    };
-    Ok(Some(Command::Table {
-        name: *name,
-        storage,
-        room,
-        columns,
-    }))
+    Ok(Command::Table {
+        name,
+        storage: storage_named(word, size).ok_or(Unread::Malformed)?,
+        room: number(room, SIZE_LIMIT).ok_or(Unread::Malformed)?,
+        columns: columns_named(heap, columns)?,
+    })
 }
 
-// How many words stand before the first arrow.
-fn before_arrow(words: &[&[u8]]) -> usize
-    ensures { result ≡ length (front no_arrow (texts words.now)) }
+fn is_arrow(word: &[u8]) -> bool
+    ensures { result ≡ is_arrow word.now }
 {
-    for (i, word) in words.iter().enumerate() {
-        if is_spelt(*word, "->") {
-            return i;
-        }
-    }
-    words.len()
+    word == b"->".as_slice()
 }
 
-fn dependency<'a>(heap: Global, words: &[&'a [u8]]) -> Result<Option<Command<'a>>, AllocError>
-    ensures { IfOk result (λ o. option_map asked o ≡ dep_said (texts words.now)) }
+fn dependency<'a>(heap: Global, words: &[&'a [u8]]) -> Result<Command<'a>, Unread>
+    ensures { ReadsAs result asked (dep_said (texts words.now)) }
 {
-    let (left, after) = words.split_at(before_arrow(words));
-    let [_, right @ ..] = after else {
-        return Ok(None);
-    };
-    if before_arrow(right) < right.len() {
-        return Ok(None);
+    let (left, after) = split_run(words, |word| !is_arrow(word));
+    let (_, right) = after.split_first().ok_or(Unread::Malformed)?;
+    if right.iter().any(|word| is_arrow(word)) {
+        return Err(Unread::Malformed);
     }
     let left = Vec::from_slice(heap, left)?;
     let right = Vec::from_slice(heap, right)?;
-    Ok(Some(Command::Dep { left, right }))
+    Ok(Command::Dep { left, right })
 }
 
-fn hex_bytes(heap: Global, words: &[&[u8]]) -> Result<Option<Vec<u8>>, AllocError>
-    ensures { IfOk result (λ o. option_map vec_items o ≡ each hex_pair (texts words.now)) }
+fn arguments<'a>(heap: Global, verb: Verb, words: &[&'a [u8]]) -> Result<Command<'a>, Unread>
+    ensures { ReadsAs result asked (says verb (texts words.now)) }
 {
-    let mut bytes = Vec::new(heap);
-    for word in words {
-        let Some(byte) = hex_pair(*word) else {
-            return Ok(None);
-        };
-        bytes.push(byte)?;
+    match (verb, words) {
+        (Verb::Help, &[]) => Ok(Command::Help),
+        (Verb::Fresh, &[]) => Ok(Command::Fresh),
+        (Verb::Table, _) => table(heap, words),
+        (Verb::Column, &[word, kind]) => {
+            let column = column_named(word, kind).ok_or(Unread::Malformed)?;
+            Ok(Command::Column { column })
+        }
+        (Verb::Dep, _) => dependency(heap, words),
+        (Verb::Seal, &[]) => Ok(Command::Seal),
+        (Verb::Load, &[name, ref bytes @ ..]) => {
+            let bytes = each(heap, bytes, |word| hex_pair(word))?;
+            Ok(Command::Load { name, bytes })
+        }
+        (Verb::Bank, &[name, size]) => {
+            let size = number(size, SIZE_LIMIT).ok_or(Unread::Malformed)?;
+            Ok(Command::Bank { name, size })
+        }
+        (Verb::Rows, &[name]) => Ok(Command::Rows { name }),
+        (Verb::Read, &[name, path]) => Ok(Command::Read { name, path }),
+        (Verb::Write, &[name, path]) => Ok(Command::Write { name, path }),
+        (Verb::Try, &[count]) => {
+            let count = number(count, COUNT_LIMIT).ok_or(Unread::Malformed)?;
+            Ok(Command::Try { count })
+        }
+        (Verb::Put, &[count]) => {
+            let count = number(count, COUNT_LIMIT).ok_or(Unread::Malformed)?;
+            Ok(Command::Put { count })
+        }
+        _ => Err(Unread::Malformed),
     }
-    Ok(Some(bytes))
-}
-
-fn load<'a>(heap: Global, words: &[&'a [u8]]) -> Result<Option<Command<'a>>, AllocError>
-    ensures { IfOk result (λ o. option_map asked o ≡ load_said (texts words.now)) }
-{
-    let [name, rest @ ..] = words else {
-        return Ok(None);
-    };
-    let Some(bytes) = hex_bytes(heap, rest)? else {
-        return Ok(None);
-    };
-    Ok(Some(Command::Load { name: *name, bytes }))
-}
-
-// A command that no word follows.
-fn bare<'a>(command: Command<'a>, words: &[&'a [u8]]) -> Option<Command<'a>>
-    ensures { option_map asked result ≡ none_after (asked command.entry) (texts words.now) }
-{
-    match words {
-        [] => Some(command),
-        _ => None,
-    }
-}
-
-fn column<'a>(words: &[&'a [u8]]) -> Option<Command<'a>>
-    ensures { option_map asked result ≡ column_said (texts words.now) }
-{
-    let [word, kind] = words else {
-        return None;
-    };
-    let Some(column) = column_named(*word, *kind) else {
-        return None;
-    };
-    Some(Command::Column { column })
-}
-
-fn bank<'a>(words: &[&'a [u8]]) -> Option<Command<'a>>
-    ensures { option_map asked result ≡ bank_said (texts words.now) }
-{
-    let [name, size] = words else {
-        return None;
-    };
-    let Some(size) = number(*size, SIZE_LIMIT) else {
-        return None;
-    };
-    Some(Command::Bank { name: *name, size })
-}
-
-fn rows<'a>(words: &[&'a [u8]]) -> Option<Command<'a>>
-    ensures { option_map asked result ≡ rows_said (texts words.now) }
-{
-    let [name] = words else {
-        return None;
-    };
-    Some(Command::Rows { name: *name })
-}
-
-fn read<'a>(words: &[&'a [u8]]) -> Option<Command<'a>>
-    ensures { option_map asked result ≡ read_said (texts words.now) }
-{
-    let [name, path] = words else {
-        return None;
-    };
-    Some(Command::Read {
-        name: *name,
-        path: *path,
-    })
-}
-
-fn write<'a>(words: &[&'a [u8]]) -> Option<Command<'a>>
-    ensures { option_map asked result ≡ write_said (texts words.now) }
-{
-    let [name, path] = words else {
-        return None;
-    };
-    Some(Command::Write {
-        name: *name,
-        path: *path,
-    })
-}
-
-// A number of rows that follow.
-fn count(words: &[&[u8]]) -> Option<u32>
-    ensures { result ≡ count_said (texts words.now) }
-{
-    let [word] = words else {
-        return None;
-    };
-    number(*word, COUNT_LIMIT)
-}
-
-fn arguments<'a>(
-    heap: Global,
-    verb: Verb,
-    words: &[&'a [u8]],
-) -> Result<Option<Command<'a>>, AllocError>
-    ensures { IfOk result (λ o. option_map asked o ≡ says verb (texts words.now)) }
-{
-    match verb {
-        Verb::Help => Ok(bare(Command::Help, words)),
-        Verb::Fresh => Ok(bare(Command::Fresh, words)),
-        Verb::Table => table(heap, words),
-        Verb::Column => Ok(column(words)),
-        Verb::Dep => dependency(heap, words),
-        Verb::Seal => Ok(bare(Command::Seal, words)),
-        Verb::Load => load(heap, words),
-        Verb::Bank => Ok(bank(words)),
-        Verb::Rows => Ok(rows(words)),
-        Verb::Read => Ok(read(words)),
-        Verb::Write => Ok(write(words)),
-        Verb::Try => Ok(try_rows(words)),
-        Verb::Put => Ok(put_rows(words)),
-    }
-}
-
-fn try_rows<'a>(words: &[&'a [u8]]) -> Option<Command<'a>>
-    ensures { option_map asked result ≡ try_said (texts words.now) }
-{
-    let Some(count) = count(words) else {
-        return None;
-    };
-    Some(Command::Try { count })
-}
-
-fn put_rows<'a>(words: &[&'a [u8]]) -> Option<Command<'a>>
-    ensures { option_map asked result ≡ put_said (texts words.now) }
-{
-    let Some(count) = count(words) else {
-        return None;
-    };
-    Some(Command::Put { count })
 }
 
 fn is_comment(line: &[u8]) -> bool
     ensures { result ≡ is_comment line.now }
 {
-    match line {
-        [first, ..] => *first == b'#',
-        [] => false,
-    }
+    matches!(line, [b'#', ..])
 }
 
 fn is_blank(line: &[u8]) -> bool
     ensures { result ≡ every is_space line.now }
 {
-    for b in line {
-        if *b != b' ' {
-            return false;
-        }
-    }
-    true
+    line.iter().all(|b| *b == b' ')
+}
+
+// The command that a line asks for.
+fn command_in<'a>(heap: Global, line: &'a [u8]) -> Result<Command<'a>, Unread>
+    ensures { ReadsAs result asked (command_of line.now) }
+{
+    let (word, rest) = split_command(line);
+    let verb = verb_of(word).ok_or(Unread::Malformed)?;
+    let words = words(heap, rest)?;
+    arguments(heap, verb, &words)
 }
 
 // What a line asks for.
@@ -431,15 +258,9 @@ pub fn parse<'a>(heap: Global, line: &'a [u8]) -> Result<Line<'a>, AllocError>
     if is_comment(line) || is_blank(line) {
         return Ok(Line::Skipped);
     }
-    let (word, rest) = split_command(line);
-    let Some(verb) = verb_of(word) else {
-        return Ok(Line::Bad);
-    };
-    let Some(words) = words(heap, rest)? else {
-        return Ok(Line::Bad);
-    };
-    let Some(command) = arguments(heap, verb, &words)? else {
-        return Ok(Line::Bad);
-    };
-    Ok(Line::Said(command))
+    match command_in(heap, line) {
+        Ok(command) => Ok(Line::Said(command)),
+        Err(Unread::Malformed) => Ok(Line::Bad),
+        Err(Unread::Memory(e)) => Err(e),
+    }
 }
