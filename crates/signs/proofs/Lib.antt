@@ -1,3 +1,4 @@
-pub mod Runs
+pub mod Finding
 pub mod Cuts
 pub mod Reaching
+pub mod Taking

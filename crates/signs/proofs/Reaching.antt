@@ -6,7 +6,7 @@ use Rattle.model.specs.Words.{is_letter}
 use Rattle.model.specs.Sorts.{is_text_byte}
 use Rattle.grammar.specs.Signs.{at, Piece, front, touches, is_digit, sign_at, signs_from, mark, equals_next, quote_end, quote_more, held}
 use Rattle.signs.specs.Reached.{before, signs_at}
-use Rattle.signs.proofs.Runs.{front_short}
+use Rattle.runs.proofs.Cuts.{front_short}
 
 abbrev pub is_space : ℕ → Bool
 is_space b = eqb b 0x20

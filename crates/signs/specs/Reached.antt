@@ -1,5 +1,6 @@
 -- The signs of a text from a place on.
 use Rattle.std.specs.Prelude.{◌≡◌, ℕ, ◌<◌, ◌≤◌, Bool, true, false, List, [], ◌∷◌, length, drop, Some, None, Option, slice_index}
+use Rattle.std.specs.Borrow.{Bor}
 use Rattle.grammar.specs.Signs as grammar
 use Rattle.grammar.specs.Signs.{at, signs_from}
 use Rattle.signs.specs.Spoken.{said}
@@ -46,3 +47,7 @@ pub record Found (f : grammar.Sign → Bool) (b : List ℕ) (a p z : ℕ) : Type
 abbrev pub Taken : (grammar.Sign → Bool) → List ℕ → ℕ → Option ℕ → ℕ → Type 0
 Taken f b a None z = Lacking f (signs_at b a) × (z ≡ a)
 Taken f b a (Some p) z = Found f b a p z
+
+-- Each call answers whether the sign is of the kind. Post relates what a call is given and what it answers.
+abbrev pub Tells : (grammar.Sign → Bool) → (Bor Token → Bool → Type 0) → Type 0
+Tells kind Post = (t : Bor Token) (r : Bool) → Post t r → r ≡ kind (said t.now.sign)

@@ -1,17 +1,11 @@
 -- What the signs of the program say.
-use Rattle.std.specs.Prelude.{ℕ, Bool, ◌==◌}
-use Rattle.model.specs.Words.{is_letter}
-use Rattle.model.specs.Sorts.{is_text_byte}
 use Rattle.conditions.specs.Meaning.{sign_of}
 use Rattle.grammar.specs.Signs as grammar
-use Rattle.grammar.specs.Signs.{is_digit}
 use Rattle.signs.specs.declared.sign.Keyword.{Keyword}
 use Rattle.signs.specs.declared.sign.Keyword.TheVariants.{And, As, Default, Drop, Join, Not, Or, Rename, Select}
 use Rattle.signs.specs.declared.sign.Sign.{Sign}
 use Rattle.signs.specs.declared.sign.Sign.TheVariants.{Word, Number, Quoted, Key, Comparing, Opening, Closing, Stray, Broken}
 use Rattle.signs.specs.declared.cutting.Piece.{Piece}
-use Rattle.signs.specs.declared.classes.Class.{Class}
-use Rattle.signs.specs.declared.classes.Class.TheVariants.{Space, Letter, Digit, Held}
 
 abbrev pub keyword : Keyword → grammar.Keyword
 keyword And = grammar.AND
@@ -34,13 +28,6 @@ said Opening = grammar.opening
 said Closing = grammar.closing
 said Stray = grammar.stray
 said (Broken q) = grammar.broken q
-
--- the bytes of a class
-abbrev pub within : Class → ℕ → Bool
-within Space b = b == 0x20
-within Letter b = is_letter b
-within Digit b = is_digit b
-within Held b = is_text_byte b
 
 abbrev pub cut : Piece → grammar.Piece
 cut p = grammar.piece (said p.sign) p.more

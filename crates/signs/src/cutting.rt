@@ -1,15 +1,15 @@
 //! The sign at a place of a text.
-ghost use Rattle.std.specs.Prelude.{◌≡◌, ◌+◌, ◌-◌, ◌^◌, ◌<◌, ◌&&◌, ◌∷◌, length, drop, slice_index};
-ghost use Rattle.std.specs.Option.{option_map};
-ghost use Rattle.model.specs.Values.{find, same_bytes};
+ghost use Rattle.std.specs.Prelude.{◌≡◌, ◌+◌, ◌-◌, ◌^◌, ◌<◌, ◌&&◌, length, drop, slice_index};
 ghost use Rattle.model.specs.Words.{is_letter};
-ghost use Rattle.grammar.specs.Signs.{all_keywords, equals_next, front, is_digit, mark, number, piece, quote_end, quote_piece, quote_sign, sign_at, spelling, touches, word_sign};
+ghost use Rattle.grammar.specs.Signs.{equals_next, front, is_digit, mark, number, piece, quote_end, quote_piece, quote_sign, sign_at, touches, word_sign};
 ghost use Rattle.signs.specs.Reached.{before};
-ghost use Rattle.signs.specs.Spoken.{cut, keyword, said, within};
+ghost use Rattle.signs.specs.Spoken.{cut, said};
 
-use crate::classes::{Class, touches};
+use crate::classes::touches;
 use crate::sign::{Keyword, Sign};
+use cells::is_text_byte;
 use conditions::Comparison;
+use runs::split_run;
 
 // A sign, with how many bytes it takes after its first.
 #[derive(Clone, Copy)]
@@ -18,57 +18,46 @@ pub(crate) struct Piece<'a> {
     pub(crate) more: usize,
 }
 
-// How a keyword is spelt.
-fn name_of(k: Keyword) -> &'static str
-    ensures { result.now ≡ spelling (keyword k) }
-{
-    match k {
-        Keyword::And => "and",
-        Keyword::As => "as",
-        Keyword::Default => "default",
-        Keyword::Drop => "drop",
-        Keyword::Join => "join",
-        Keyword::Not => "not",
-        Keyword::Or => "or",
-        Keyword::Rename => "rename",
-        Keyword::Select => "select",
+impl<'a> Piece<'a> {
+    // A sign of one byte.
+    fn single(sign: Sign<'a>) -> Piece<'a>
+        ensures { cut result ≡ piece (said sign.entry) 0 }
+    {
+        Piece { sign, more: 0 }
     }
-}
-
-fn is_spelt(word: &[u8], name: &str) -> bool
-    ensures { result ≡ same_bytes word.now name.now }
-{
-    word == name.as_bytes()
-}
-
-fn keyword_of(word: &[u8]) -> Option<Keyword>
-    ensures { option_map keyword result ≡ find (λ k. same_bytes word.now (spelling k)) all_keywords }
-{
-    let keywords = [
-        Keyword::And,
-        Keyword::As,
-        Keyword::Default,
-        Keyword::Drop,
-        Keyword::Join,
-        Keyword::Not,
-        Keyword::Or,
-        Keyword::Rename,
-        Keyword::Select,
-    ];
-    for k in &keywords {
-        if is_spelt(word, name_of(*k)) {
-            return Some(*k);
-        }
-    }
-    None
 }
 
 fn word_sign(word: &[u8]) -> Sign<'_>
     ensures { said result ≡ word_sign word.now }
 {
-    match keyword_of(word) {
+    // A match, since no proof is made of `map_or` where its function's result may borrow the word.
+    match Keyword::spelt(word) {
         Some(k) => Sign::Key(k),
         None => Sign::Word(word),
+    }
+}
+
+// The word at the front of a text that begins with a letter.
+fn first_word(text: &[u8]) -> Piece<'_>
+    requires { 0 < length (front is_letter text.now) }
+    ensures { cut result ≡ piece (word_sign (front is_letter text.now)) (length (front is_letter text.now) - 1) }
+{
+    let (word, _) = split_run(text, |b| b.is_ascii_lowercase());
+    Piece {
+        sign: word_sign(word),
+        more: word.len() - 1,
+    }
+}
+
+// The number at the front of a text that begins with a digit.
+fn first_number(text: &[u8]) -> Piece<'_>
+    requires { 0 < length (front is_digit text.now) }
+    ensures { cut result ≡ piece (number (front is_digit text.now)) (length (front is_digit text.now) - 1) }
+{
+    let (digits, _) = split_run(text, |b| b.is_ascii_digit());
+    Piece {
+        sign: Sign::Number(digits),
+        more: digits.len() - 1,
     }
 }
 
@@ -77,22 +66,13 @@ fn quote_end<'a>(place: usize, held: &'a [u8], after: &[u8]) -> Piece<'a>
     requires { place + length held.now < 2 ^ 64 - 1 }
     ensures { cut result ≡ quote_piece (quote_end place held.now after.now) }
 {
-    let Some(b) = after.first() else {
-        return Piece {
-            sign: Sign::Broken(place),
-            more: 0,
-        };
-    };
-    if *b == b'"' {
-        Piece {
+    match after {
+        [] => Piece::single(Sign::Broken(place)),
+        [b'"', ..] => Piece {
             sign: Sign::Quoted(held),
             more: held.len() + 1,
-        }
-    } else {
-        Piece {
-            sign: Sign::Broken(place + 1 + held.len()),
-            more: 0,
-        }
+        },
+        _ => Piece::single(Sign::Broken(place + 1 + held.len())),
     }
 }
 
@@ -101,12 +81,12 @@ fn quote(place: usize, rest: &[u8]) -> Piece<'_>
     requires { place + length rest.now < 2 ^ 64 - 1 }
     ensures { cut result ≡ quote_piece (quote_sign place rest.now) }
 {
-    let (held, after) = rest.split_at(Class::Held.run(rest));
+    let (held, after) = split_run(rest, |b| is_text_byte(*b));
     quote_end(place, held, after)
 }
 
 // One of ( ) = != < <= > >=, or a stray sign, by its first byte and whether an = follows.
-fn mark_of(b: u8, equals: bool) -> Piece<'static>
+fn mark(b: u8, equals: bool) -> Piece<'static>
     ensures { cut result ≡ mark b equals }
 {
     let (sign, more) = match (b, equals) {
@@ -126,41 +106,7 @@ fn mark_of(b: u8, equals: bool) -> Piece<'static>
 fn is_equals(text: &[u8]) -> bool
     ensures { result ≡ equals_next text.now }
 {
-    match text {
-        [b'=', ..] => true,
-        _ => false,
-    }
-}
-
-// The byte at a place, and the bytes of the class that follow it.
-fn run_at(class: Class, text: &[u8], place: usize) -> &[u8]
-    requires { place < length text.now }
-    ensures { result.now ≡ slice_index text.now place ∷ front (within class) (drop (place + 1) text.now) }
-{
-    let n = class.run(&text[place + 1..]);
-    &text[place..place + 1 + n]
-}
-
-fn word_at(text: &[u8], place: usize) -> Piece<'_>
-    requires { place < length text.now }
-    ensures { cut result ≡ piece (word_sign (slice_index text.now place ∷ front is_letter (drop (place + 1) text.now))) (length (front is_letter (drop (place + 1) text.now))) }
-{
-    let word = run_at(Class::Letter, text, place);
-    Piece {
-        sign: word_sign(word),
-        more: word.len() - 1,
-    }
-}
-
-fn number_at(text: &[u8], place: usize) -> Piece<'_>
-    requires { place < length text.now }
-    ensures { cut result ≡ piece (number (slice_index text.now place ∷ front is_digit (drop (place + 1) text.now))) (length (front is_digit (drop (place + 1) text.now))) }
-{
-    let digits = run_at(Class::Digit, text, place);
-    Piece {
-        sign: Sign::Number(digits),
-        more: digits.len() - 1,
-    }
+    matches!(text, [b'=', ..])
 }
 
 // Whether the byte at a place touches a word or a number before it.
@@ -168,7 +114,7 @@ fn is_stray(text: &[u8], place: usize) -> bool
     requires { place < length text.now }
     ensures { result ≡ (touches (slice_index text.now place) && touches (before text.now place)) }
 {
-    touches(text[place]) && place > 0 && touches(text[place - 1])
+    touches(text[place]) && text[..place].last().is_some_and(|b| touches(*b))
 }
 
 // The sign at a place.
@@ -176,22 +122,17 @@ pub(crate) fn piece_at(text: &[u8], place: usize) -> Piece<'_>
     requires { place < length text.now }
     ensures { cut result ≡ sign_at place (before text.now place) (slice_index text.now place) (drop (place + 1) text.now) }
 {
-    let b = text[place];
-    if is_stray(text, place) {
-        return Piece {
-            sign: Sign::Stray,
-            more: 0,
-        };
-    }
-    if Class::Letter.has(b) {
-        return word_at(text, place);
-    }
-    if Class::Digit.has(b) {
-        return number_at(text, place);
-    }
+    let first = text[place];
     let rest = &text[place + 1..];
-    if b == b'"' {
-        return quote(place, rest);
+    if is_stray(text, place) {
+        Piece::single(Sign::Stray)
+    } else if first.is_ascii_lowercase() {
+        first_word(&text[place..])
+    } else if first.is_ascii_digit() {
+        first_number(&text[place..])
+    } else if first == b'"' {
+        quote(place, rest)
+    } else {
+        mark(first, is_equals(rest))
     }
-    mark_of(b, is_equals(rest))
 }

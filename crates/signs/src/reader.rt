@@ -1,12 +1,14 @@
 //! The reader over a text.
-ghost use Rattle.std.specs.Prelude.{◌≡◌, ◌≤◌, length};
-ghost use Rattle.signs.specs.Reached.{Next, Passed, Taken};
-ghost use Rattle.signs.specs.Spoken.{keyword};
+ghost use Rattle.std.specs.Prelude.{◌≡◌, ◌-◌, ◌≤◌, Bool, length};
+ghost use Rattle.std.specs.Iterator.{at_most};
 ghost use Rattle.grammar.specs.Reading.{is_key, is_opening};
+ghost use Rattle.grammar.specs.Signs.{Sign as GrammarSign};
+ghost use Rattle.signs.specs.Reached.{Tells, Next, Passed, Taken};
+ghost use Rattle.signs.specs.Spoken.{keyword};
 
-use crate::classes::Class;
 use crate::cutting::piece_at;
 use crate::sign::{Keyword, Token};
+use runs::split_run;
 
 // The text, which is not copied, and the place reached in it.
 #[derive(Clone, Copy)]
@@ -36,7 +38,8 @@ impl<'a> Reader<'a> {
         ensures { Next self.now.text.now self.now.at result }
     {
         let text = self.text;
-        let place = self.at + Class::Space.run(&text[self.at..]);
+        let (spaces, _) = split_run(&text[self.at..], |b| *b == b' ');
+        let place = self.at + spaces.len();
         if place >= text.len() {
             return None;
         }
@@ -48,16 +51,15 @@ impl<'a> Reader<'a> {
         })
     }
 
-    // The next sign, which is passed.
-    pub fn next(&mut self) -> Option<Token<'a>>
+    // Passes the next sign if it passes the test, and gives its place.
+    fn take_if<F: FnOnce(&Token<'a>) -> bool>(&mut self, test: F) -> Option<usize>
+        requires { F.IsAlwaysCallable test }
         ensures same { self.new.text ≡ self.old.text }
-        ensures passed { Passed self.old.text.now self.old.at result self.new.at }
+        ensures taken { (kind : GrammarSign → Bool) → Tells kind (F.post test) → Taken kind self.old.text.now self.old.at result self.new.at }
     {
-        let Some(token) = self.peek() else {
-            return None;
-        };
+        let token = self.peek().filter(test)?;
         self.at = token.end;
-        Some(token)
+        Some(token.place)
     }
 
     // Passes the next sign if it is the keyword, and gives its place.
@@ -65,14 +67,7 @@ impl<'a> Reader<'a> {
         ensures same { self.new.text ≡ self.old.text }
         ensures taken { Taken (is_key (keyword wanted)) self.old.text.now self.old.at result self.new.at }
     {
-        let Some(token) = self.peek() else {
-            return None;
-        };
-        if !token.sign.is_key(wanted) {
-            return None;
-        }
-        self.at = token.end;
-        Some(token.place)
+        self.take_if(|token| token.sign.is_key(wanted))
     }
 
     // Passes the next sign if it is an opening bracket, and gives its place.
@@ -80,13 +75,21 @@ impl<'a> Reader<'a> {
         ensures same { self.new.text ≡ self.old.text }
         ensures taken { Taken is_opening self.old.text.now self.old.at result self.new.at }
     {
-        let Some(token) = self.peek() else {
-            return None;
-        };
-        if !token.sign.is_opening() {
-            return None;
-        }
+        self.take_if(|token| token.sign.is_opening())
+    }
+}
+
+// The signs of the text from the place reached on, each of which is passed.
+impl<'a> Iterator for Reader<'a> {
+    type Item = Token<'a>;
+
+    ghost next_gives = { λ r token s. (s.text ≡ r.text) × Passed r.text.now r.at token s.at };
+
+    ghost remaining = { λ r. at_most (length r.text.now - r.at) };
+
+    fn next(&mut self) -> Option<Token<'a>> {
+        let token = self.peek()?;
         self.at = token.end;
-        Some(token.place)
+        Some(token)
     }
 }

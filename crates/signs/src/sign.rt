@@ -1,8 +1,12 @@
 //! Signs, keywords and tokens.
 ghost use Rattle.std.specs.Prelude.{◌≡◌};
-ghost use Rattle.grammar.specs.Reading.{index, is_closing, is_key, is_opening};
+ghost use Rattle.std.specs.Option.{option_map};
+ghost use Rattle.model.specs.Values.{find, same_bytes};
+ghost use Rattle.grammar.specs.Reading.{is_closing, is_key, is_opening};
+ghost use Rattle.grammar.specs.Signs.{all_keywords, spelling};
 ghost use Rattle.signs.specs.Spoken.{keyword, said};
 
+use cells::{Cause, Refusal, refused};
 use conditions::Comparison;
 
 // The words that the grammar keeps for itself.
@@ -43,38 +47,73 @@ pub struct Token<'a> {
 }
 
 impl Keyword {
-    fn number(self) -> u8
-        ensures { result ≡ index (keyword self) }
+    const ALL: [Keyword; 9] = [
+        Keyword::And,
+        Keyword::As,
+        Keyword::Default,
+        Keyword::Drop,
+        Keyword::Join,
+        Keyword::Not,
+        Keyword::Or,
+        Keyword::Rename,
+        Keyword::Select,
+    ];
+
+    fn spelling(self) -> &'static str
+        ensures { result.now ≡ spelling (keyword self) }
     {
-        self as u8
+        match self {
+            Keyword::And => "and",
+            Keyword::As => "as",
+            Keyword::Default => "default",
+            Keyword::Drop => "drop",
+            Keyword::Join => "join",
+            Keyword::Not => "not",
+            Keyword::Or => "or",
+            Keyword::Rename => "rename",
+            Keyword::Select => "select",
+        }
+    }
+
+    fn is_spelt(self, word: &[u8]) -> bool
+        ensures { result ≡ same_bytes word.now (spelling (keyword self)) }
+    {
+        word == self.spelling().as_bytes()
+    }
+
+    // The keyword that is spelt so, found among all as the grammar defines it.
+    pub(crate) fn spelt(word: &[u8]) -> Option<Keyword>
+        ensures { option_map keyword result ≡ find (λ k. same_bytes word.now (spelling k)) all_keywords }
+    {
+        Keyword::ALL.iter().copied().find(|k| k.is_spelt(word))
     }
 }
 
-impl<'a> Sign<'a> {
+impl Token<'_> {
+    // The refusal of what is at fault at the sign.
+    pub fn refuse(self, cause: Cause) -> Refusal
+        ensures { result ≡ Refusal.Fault (record { cause = cause; kind = 0; place = self.entry.place }) }
+    {
+        refused(cause, 0, self.place)
+    }
+}
+
+impl Sign<'_> {
     pub fn is_key(self, wanted: Keyword) -> bool
         ensures { result ≡ is_key (keyword wanted) (said self.entry) }
     {
-        match self {
-            Sign::Key(k) => k.number() == wanted.number(),
-            _ => false,
-        }
+        matches!(self, Sign::Key(k) if k == wanted)
     }
 
     pub fn is_opening(self) -> bool
         ensures { result ≡ is_opening (said self.entry) }
     {
-        match self {
-            Sign::Opening => true,
-            _ => false,
-        }
+        matches!(self, Sign::Opening)
     }
 
     pub fn is_closing(self) -> bool
         ensures { result ≡ is_closing (said self.entry) }
     {
-        match self {
-            Sign::Closing => true,
-            _ => false,
-        }
+        matches!(self, Sign::Closing)
     }
 }

@@ -1,13 +1,7 @@
-use Rattle.std.proofs.Common.{take, drop, ap, ◌∙◌, ap₂}
+use Rattle.std.proofs.Common.{length, ap, arith, rules, tests}
 use Rattle.model.specs.Sorts.{is_text_byte}
-use Rattle.grammar.specs.Signs.{quote_end, quote_piece}
-use Rattle.signs.proofs.Runs.{front_take}
+use Rattle.runs.proofs.Cuts.{front_short}
 use Rattle.signs.proofs.cutting.quote.Goals as goal
 
-pub returns : goal.returns
-returns c =
-    let rest = c.args.rest.now in
-    let n = c.run.ensures.value in
-    let h = c.split_at.ensures.front ∙ ap (λ n. take n rest) n ∙ front_take is_text_byte rest in
-    let a = c.split_at.ensures.back ∙ ap (λ n. drop n rest) n in
-    c.quote_end.ensures ∙ ap₂ (λ b r. quote_piece (quote_end c.args.place b r)) h a
+pub quote_end-requires : goal.quote_end-requires
+quote_end-requires c = omega (arith, ap length (c.split_run.ensures.front is_text_byte (λ a b k. search (rules, tests))), front_short is_text_byte c.args.rest.now)

@@ -1,4 +1,4 @@
-use Rattle.std.proofs.Common.{◌≡◌, ℕ, ◌+◌, ◌-◌, ◌<◌, false, List, ◌∷◌, length, get_or, take, drop, sym, refl, ap, ◌∙◌, arith}
+use Rattle.std.proofs.Common.{◌≡◌, ℕ, ◌+◌, ◌-◌, ◌<◌, false, List, ◌∷◌, length, get_or, take, drop, sym, refl, ap, ◌∙◌, arith, rules, tests}
 use Rattle.std.proofs.lemmas.List.{take_rest, get_or-drop, length-drop}
 use Rattle.grammar.specs.Signs.{at, Piece, front, sign_at}
 use Rattle.signs.specs.Reached.{before, signs_at, First}
@@ -18,24 +18,25 @@ first b a n s e h c =
     let more = ap (λ (p : Piece). p.more) c in
     record { first = spaced b a n e ∙ (first_sign b (a + n) h stop ∙ ap (λ (p : Piece). at (a + n) p.sign ∷ signs_at b (a + n + 1 + p.more)) (sym c)); onward = omega arith; inside = omega (arith, first_inside b (a + n) h, more) }
 
-n_is : (b : List ℕ) (a n : ℕ) → n ≡ length (front is_space (take (length b - a) (drop a b))) → n ≡ length (front is_space (drop a b))
-n_is b a n e = e ∙ ap (λ l. length (front is_space l)) (take_rest b a)
+-- how many spaces are passed
+passed : (b : List ℕ) (a : ℕ) (s : List ℕ) → s ≡ front is_space (take (length b - a) (drop a b)) → length s ≡ length (front is_space (drop a b))
+passed b a s e = ap length e ∙ ap (λ l. length (front is_space l)) (take_rest b a)
 
 pub returns-then-place-text : goal.returns-then-place-text
 returns-then-place-text c =
     let b = c.args.self.now.text.now in
     let a = c.args.self.now.at in
-    spaced b a c.run.result (n_is b a _ c.run.ensures.value) ∙ no_sign b (a + c.run.result) (omega arith)
+    let s = c.split_run.result.0.now in
+    spaced b a (length s) (passed b a s (c.split_run.ensures.front is_space (λ a b k. search (rules, tests)))) ∙ no_sign b (a + length s) (omega arith)
 
 pub overflow_add-result-2 : goal.overflow_add-result-2
 overflow_add-result-2 c =
-    let b = c.args.self.now.text.now in
-    let a = c.args.self.now.at in
     let more = ap (λ (p : Piece). p.more) c.piece_at-piece.ensures in
-    omega (arith, more, first_inside b (a + c.run.result) (omega arith))
+    omega (arith, more, first_inside c.args.self.now.text.now (c.args.self.now.at + length c.split_run.result.0.now) (omega arith))
 
 pub returns : goal.returns
 returns c =
     let b = c.args.self.now.text.now in
     let a = c.args.self.now.at in
-    first b a c.run.result c.piece_at-piece.result (n_is b a _ c.run.ensures.value) (omega arith) c.piece_at-piece.ensures
+    let s = c.split_run.result.0.now in
+    first b a (length s) c.piece_at-piece.result (passed b a s (c.split_run.ensures.front is_space (λ a b k. search (rules, tests)))) (omega arith) c.piece_at-piece.ensures
