@@ -1,5 +1,6 @@
 pub mod Numbers
 pub mod Judges
+pub mod Asking
 pub mod Running
 pub mod Phrasing
 pub mod Steps

@@ -1,11 +1,11 @@
 -- How reading goes on: one sign, one item, and what may follow but does not.
 use Rattle.std.proofs.Common.{◌≡◌, ℕ, Bool, List, [], ◌∷◌, ◌++◌, length, sym, refl, ap, ◌∙◌, Bor}
 use Rattle.std.proofs.lemmas.List.{append_assoc}
-use Rattle.std.proofs.lemmas.Bool.{cond-true, cond-false}
-use Rattle.grammar.specs.Signs.{Sign, Token, AND, OR, NOT}
-use Rattle.grammar.specs.Reading.{Item, Want, Taken, goes, stops, takes, after, go_on, Read, reads, following, run, complete, more_and, more_or, a_neg, an_op, an_and, an_or, on_word, is_key, is_opening}
-use Rattle.signs.specs.Reached.{Lacking, Found}
-use Rattle.reader.specs.Saying.{from, Awaits}
+use Rattle.std.proofs.lemmas.Bool.{cond-true}
+use Rattle.grammar.specs.Signs.{Sign, Token, AND, OR}
+use Rattle.grammar.specs.Reading.{Item, Want, Taken, goes, stops, takes, after, go_on, Read, reads, following, run, complete, more_and, more_or, a_neg, an_and, an_or, is_key}
+use Rattle.signs.specs.Reached.{Found}
+use Rattle.reader.specs.Saying.{from}
 
 -- the text behind equal references
 pub same_text : {x y : Bor (List ℕ)} → x ≡ y → x.now ≡ y.now
@@ -32,8 +32,3 @@ and_found b a p z d K F = found_goes (is_key AND) b a p z (more_and d ∷ K) _ F
 
 pub or_found : (b : List ℕ) (a p z d : ℕ) (K : List Want) → Found (is_key OR) b a p z → from b a (more_or d ∷ K) ≡ from b z (a_neg d ∷ more_and d ∷ complete an_or ∷ more_or d ∷ K)
 or_found b a p z d K F = found_goes (is_key OR) b a p z (more_or d ∷ K) _ F (cond-true (is_key OR F.sign) _ _ F.is)
-
--- a neg that begins with neither a not nor a bracket
-pub neg_awaits : (e d : ℕ) (K : List Want) (l : List Token) → Lacking (is_key NOT) l → Lacking is_opening l → Awaits e (a_neg d ∷ K) on_word (λ w. goes [] (an_op w ∷ K)) l
-neg_awaits e d K [] h g = refl
-neg_awaits e d K (t ∷ l) h g = cond-false (is_key NOT t.sign) _ _ h ∙ cond-false (is_opening t.sign) _ _ g

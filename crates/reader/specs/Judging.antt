@@ -8,8 +8,6 @@ use Rattle.cells.specs.declared.faults.Refusal.TheVariants as refusal
 use Rattle.model.specs.Sorts.{greatest}
 use Rattle.grammar.specs.Signs.{decimal}
 use Rattle.grammar.specs.Reading.{Taken, stops}
-use Rattle.signs.specs.Reached.{First, signs_at}
-use Rattle.signs.specs.declared.sign.Token.{Token}
 
 -- A sign is taken as a value, or stops reading with a fault. J is how it is judged.
 abbrev pub Judged : {A B : Type 0} → ((A → Taken) → Taken) → (B → A) → Result B Refusal → Type 0
@@ -23,12 +21,6 @@ spelt w = w.now
 -- the fault of a text that ends where a sign is wanted
 abbrev pub ended : List ℕ → Fault
 ended b = record { number = 1; kind = 0; place = length b }
-
--- the next sign is passed, or the text ends
-abbrev pub Wanted : List ℕ → ℕ → Result Token Refusal → ℕ → Type 0
-Wanted b a (Ok t) z = First b a t × (z ≡ t.end)
-Wanted b a (Err (refusal.Fault f)) z = (signs_at b a ≡ []) × (told f ≡ ended b) × (z ≡ a)
-Wanted b a (Err refusal.Memory) z = ⊥
 
 -- the number that digits write, where it is not above the greatest
 abbrev pub Counted : List ℕ → Option ℕ → Type 0

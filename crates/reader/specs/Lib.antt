@@ -1,3 +1,4 @@
 pub mod Judging
 pub mod Saying
 pub mod Stepping
+pub mod Parsing

@@ -8,8 +8,8 @@ use Rattle.grammar.specs.Signs.{Sign, Token}
 use Rattle.grammar.specs.Phrases as grammar
 use Rattle.grammar.specs.Phrases.{compared, negated, bracket, both, either}
 use Rattle.grammar.specs.Reading.{Item, leaf, a_not, a_bracket, an_and, an_or, Want, Taken, takes, lacks, at_end, go_on, Read, reads, following, run, steps}
-use Rattle.phrases.specs.Written.{phrase}
-use Rattle.phrases.specs.declared.phrase.Phrase.{Phrase}
+use Rattle.phrases.specs.Written.{ByWord, phrase}
+use Rattle.conditions.specs.declared.trees.Formula.{Formula}
 use Rattle.signs.specs.Reached.{signs_at}
 
 -- reading a text from the place a, with this wanted
@@ -42,21 +42,10 @@ pub record Stops (start : List Want → Read) (f : Fault) : Type 0 where
   pub stops : (K : List Want) → start K ≡ reads items (Some f)
 
 -- a phrase is read up to the place z, from where reading goes on
-abbrev pub Said : (List Want → Read) → List ℕ → Result Phrase Refusal → ℕ → Type 0
+abbrev pub Said : (List Want → Read) → List ℕ → Result (Formula ByWord) Refusal → ℕ → Type 0
 Said start b (Ok t) z = (K : List Want) → start K ≡ following (postfix (phrase t)) (from b z K)
 Said start b (Err (refusal.Fault f)) z = Stops start (told f)
 Said start b (Err refusal.Memory) z = Unit {0}
-
--- a phrase, of which the first part, k, was read before
-pub record Longer (start : List Want → Read) (k t : grammar.Phrase) (b : List ℕ) (z : ℕ) : Type 0 where
-  pub items : List Item
-  pub whole : postfix t ≡ postfix k ++ items
-  pub goes : (K : List Want) → start K ≡ following items (from b z K)
-
-abbrev pub SaidOn : (List Want → Read) → grammar.Phrase → List ℕ → Result Phrase Refusal → ℕ → Type 0
-SaidOn start k b (Ok t) z = Longer start k (phrase t) b z
-SaidOn start k b (Err (refusal.Fault f)) z = Stops start (told f)
-SaidOn start k b (Err refusal.Memory) z = Unit {0}
 
 -- the judges of a sign that has to be this
 abbrev pub on_test : (Sign → Bool) → ℕ → Sign → (Unit {0} → Taken) → Taken

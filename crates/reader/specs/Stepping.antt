@@ -9,6 +9,7 @@ use Rattle.grammar.specs.Signs.{Sign}
 use Rattle.grammar.specs.Phrases.{Phrase, Step, source, select, drop, rename, join, Placed, placed}
 use Rattle.grammar.specs.Reading.{Item, a_select, a_step, Want, Taken, Read, reads, following, on_word, steps}
 use Rattle.phrases.specs.Written as written
+use Rattle.phrases.specs.declared.steps.Placed as program_placed
 use Rattle.phrases.specs.declared.steps.Step as program
 use Rattle.reader.specs.Saying.{from, postfix, Stops}
 
@@ -48,6 +49,19 @@ abbrev pub Built : (List Want → Read) → List ℕ → List Placed → List Pl
 Built start b S T (Ok u) z = Adds start b S T z
 Built start b S T (Err (refusal.Fault f)) z = StopsAdding start S T (told f)
 Built start b S T (Err refusal.Memory) z = Unit {0}
+
+-- steps are read and added to S, which makes T, before X is wanted
+pub record AddsBefore (start : List Want → Read) (b : List ℕ) (X : List Want → List Want) (S T : List Placed) (z : ℕ) : Type 0 where
+  pub new : List Placed
+  pub all : T ≡ S ++ new
+  pub goes : (K : List Want) → start K ≡ following (all_items new) (from b z (X K))
+
+-- Where a further step is wanted by X, one is read, which follows the steps that are added before it; or none is there.
+abbrev pub Further : (List Want → List Want) → List ℕ → ℕ → List Placed → List Placed → Result (Option program_placed.Placed) Refusal → ℕ → Type 0
+Further X b a S T (Ok (Some x)) z = AddsBefore (λ K. from b a (X K)) b X S (T ++ (written.placed x ∷ [])) z
+Further X b a S T (Ok None) z = (T ≡ S) × ((K : List Want) → from b a (X K) ≡ from b z K)
+Further X b a S T (Err (refusal.Fault f)) z = StopsAdding (λ K. from b a (X K)) S T (told f)
+Further X b a S T (Err refusal.Memory) z = Unit {0}
 
 -- a word with its place
 abbrev pub on_table : ℕ → Sign → ((ℕ × List ℕ) → Taken) → Taken

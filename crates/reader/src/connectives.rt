@@ -1,131 +1,94 @@
 //! Conditions, read by recursion: remaining depth and remaining text fall at each call.
-ghost use Rattle.std.specs.Prelude.{◌≡◌, ◌≤◌, ◌∷◌};
-ghost use Rattle.grammar.specs.Reading.{a_bracket, a_closing, a_condition, a_neg, a_not, an_op, complete, more_and, more_or};
-ghost use Rattle.phrases.specs.Written.{phrase};
-ghost use Rattle.reader.specs.Saying.{Said, SaidOn, from};
+ghost use Rattle.std.specs.Prelude.{◌∷◌};
+ghost use Rattle.grammar.specs.Reading.{a_bracket, a_closing, a_condition, a_neg, a_not, an_op, complete, more_and};
+ghost use Rattle.reader.specs.Parsing.{Onward, Reads};
 
-use crate::nexts::{next_closing, next_comparing, next_operand, next_word};
-use crate::terminals::deeper;
+use crate::parser::Parser;
+use crate::terminals::{comparing, deeper, operand, word};
 use cells::Refusal;
+use conditions::{Compared, Formula};
 use phrases::Phrase;
-use signs::{Keyword, Reader};
-use std::alloc::Global;
+use signs::Keyword;
 
-// What is left of a comparison behind its column.
-fn comparison<'a>(reader: &mut Reader<'a>, column: &'a [u8]) -> Result<Phrase<'a>, Refusal>
-    ensures same { reader.new.text ≡ reader.old.text }
-    ensures onward { reader.old.at ≤ reader.new.at }
-    ensures said { Said (λ K. from reader.old.text.now reader.old.at (an_op column.now ∷ K)) reader.old.text.now result reader.new.at }
-{
-    let sign = next_comparing(reader)?;
-    let term = next_operand(reader)?;
-    Ok(Phrase::Compared(column, sign, term))
-}
-
-// not neg, or ( condition ), or a comparison
-#[cycle(and_more_bracketed_condition_conjunction_negated_negation_or_more)]
-fn negation<'a>(reader: &mut Reader<'a>, heap: Global, depth: u8) -> Result<Phrase<'a>, Refusal>
-    ensures same { reader.new.text ≡ reader.old.text }
-    ensures onward { reader.old.at ≤ reader.new.at }
-    ensures said { Said (λ K. from reader.old.text.now reader.old.at (a_neg depth ∷ K)) reader.old.text.now result reader.new.at }
-{
-    if let Some(place) = reader.take_key(Keyword::Not) {
-        let depth = deeper(depth, place)?;
-        return negated(reader, heap, depth);
+impl<'a> Parser<'a> {
+    // What is left of a comparison behind its column.
+    fn comparison(&mut self, column: &'a [u8]) -> Result<Phrase<'a>, Refusal>
+        ensures onward { Onward self.old self.new }
+        ensures said { Reads (λ K. an_op column.now ∷ K) self.old result self.new }
+    {
+        let comparison = self.next(comparing)?;
+        let operand = self.next(operand)?;
+        Ok(Formula::Atom(Compared {
+            column,
+            comparison,
+            operand,
+        }))
     }
-    if let Some(place) = reader.take_opening() {
-        let depth = deeper(depth, place)?;
-        return bracketed(reader, heap, depth);
+
+    // not neg, or ( condition ), or a comparison
+    #[cycle(bracketed_condition_conjunction_negated_negation)]
+    fn negation(&mut self, depth: u8) -> Result<Phrase<'a>, Refusal>
+        ensures onward { Onward self.old self.new }
+        ensures said { Reads (λ K. a_neg depth ∷ K) self.old result self.new }
+    {
+        if let Some(place) = self.reader.take_key(Keyword::Not) {
+            let depth = deeper(depth, place)?;
+            return self.negated(depth);
+        }
+        if let Some(place) = self.reader.take_opening() {
+            let depth = deeper(depth, place)?;
+            return self.bracketed(depth);
+        }
+        let column = self.next(word)?;
+        self.comparison(column)
     }
-    let column = next_word(reader)?;
-    comparison(reader, column)
-}
 
-// What a not stands over.
-#[cycle(and_more_bracketed_condition_conjunction_negated_negation_or_more)]
-fn negated<'a>(reader: &mut Reader<'a>, heap: Global, depth: u8) -> Result<Phrase<'a>, Refusal>
-    ensures same { reader.new.text ≡ reader.old.text }
-    ensures onward { reader.old.at ≤ reader.new.at }
-    ensures said { Said (λ K. from reader.old.text.now reader.old.at (a_neg depth ∷ complete a_not ∷ K)) reader.old.text.now result reader.new.at }
-{
-    let inner = negation(reader, heap, depth)?;
-    Ok(Phrase::not(heap, inner)?)
-}
+    // What a not stands over.
+    #[cycle(bracketed_condition_conjunction_negated_negation)]
+    fn negated(&mut self, depth: u8) -> Result<Phrase<'a>, Refusal>
+        ensures onward { Onward self.old self.new }
+        ensures said { Reads (λ K. a_neg depth ∷ complete a_not ∷ K) self.old result self.new }
+    {
+        let inner = self.negation(depth)?;
+        Ok(Phrase::not(self.heap, inner)?)
+    }
 
-// What stands in brackets, and the closing one.
-#[cycle(and_more_bracketed_condition_conjunction_negated_negation_or_more)]
-fn bracketed<'a>(reader: &mut Reader<'a>, heap: Global, depth: u8) -> Result<Phrase<'a>, Refusal>
-    ensures same { reader.new.text ≡ reader.old.text }
-    ensures onward { reader.old.at ≤ reader.new.at }
-    ensures said { Said (λ K. from reader.old.text.now reader.old.at (a_condition depth (a_closing ∷ complete a_bracket ∷ K))) reader.old.text.now result reader.new.at }
-{
-    let inner = condition(reader, heap, depth)?;
-    next_closing(reader)?;
-    Ok(Phrase::bracketed(heap, inner)?)
-}
+    // What stands in brackets, and the closing one.
+    #[cycle(bracketed_condition_conjunction_negated_negation)]
+    fn bracketed(&mut self, depth: u8) -> Result<Phrase<'a>, Refusal>
+        ensures onward { Onward self.old self.new }
+        ensures said { Reads (λ K. a_condition depth (a_closing ∷ complete a_bracket ∷ K)) self.old result self.new }
+    {
+        let inner = self.condition(depth)?;
+        self.expect(|sign| sign.is_closing())?;
+        Ok(Phrase::bracketed(self.heap, inner)?)
+    }
 
-// neg { and neg }
-#[cycle(and_more_bracketed_condition_conjunction_negated_negation_or_more)]
-fn conjunction<'a>(reader: &mut Reader<'a>, heap: Global, depth: u8) -> Result<Phrase<'a>, Refusal>
-    ensures same { reader.new.text ≡ reader.old.text }
-    ensures onward { reader.old.at ≤ reader.new.at }
-    ensures said { Said (λ K. from reader.old.text.now reader.old.at (a_neg depth ∷ more_and depth ∷ K)) reader.old.text.now result reader.new.at }
-{
-    let first = negation(reader, heap, depth)?;
-    and_more(reader, heap, depth, first)
-}
+    // neg { and neg }: a loop of its own, since part, key and constructor as parameters would be no plainer
+    #[cycle(bracketed_condition_conjunction_negated_negation)]
+    fn conjunction(&mut self, depth: u8) -> Result<Phrase<'a>, Refusal>
+        ensures onward { Onward self.old self.new }
+        ensures said { Reads (λ K. a_neg depth ∷ more_and depth ∷ K) self.old result self.new }
+    {
+        let mut left = self.negation(depth)?;
+        while self.reader.take_key(Keyword::And).is_some() {
+            let right = self.negation(depth)?;
+            left = Phrase::and(self.heap, left, right)?;
+        }
+        Ok(left)
+    }
 
-// { and neg } behind what was read
-#[cycle(and_more_bracketed_condition_conjunction_negated_negation_or_more)]
-fn and_more<'a>(
-    reader: &mut Reader<'a>,
-    heap: Global,
-    depth: u8,
-    left: Phrase<'a>,
-) -> Result<Phrase<'a>, Refusal>
-    ensures same { reader.new.text ≡ reader.old.text }
-    ensures onward { reader.old.at ≤ reader.new.at }
-    ensures said { SaidOn (λ K. from reader.old.text.now reader.old.at (more_and depth ∷ K)) (phrase left.entry) reader.old.text.now result reader.new.at }
-{
-    let Some(_) = reader.take_key(Keyword::And) else {
-        return Ok(left);
-    };
-    let right = negation(reader, heap, depth)?;
-    let both = Phrase::and(heap, left, right)?;
-    and_more(reader, heap, depth, both)
-}
-
-// conj { or conj }
-#[cycle(and_more_bracketed_condition_conjunction_negated_negation_or_more)]
-pub(crate) fn condition<'a>(
-    reader: &mut Reader<'a>,
-    heap: Global,
-    depth: u8,
-) -> Result<Phrase<'a>, Refusal>
-    ensures same { reader.new.text ≡ reader.old.text }
-    ensures onward { reader.old.at ≤ reader.new.at }
-    ensures said { Said (λ K. from reader.old.text.now reader.old.at (a_condition depth K)) reader.old.text.now result reader.new.at }
-{
-    let first = conjunction(reader, heap, depth)?;
-    or_more(reader, heap, depth, first)
-}
-
-// { or conj } behind what was read
-#[cycle(and_more_bracketed_condition_conjunction_negated_negation_or_more)]
-fn or_more<'a>(
-    reader: &mut Reader<'a>,
-    heap: Global,
-    depth: u8,
-    left: Phrase<'a>,
-) -> Result<Phrase<'a>, Refusal>
-    ensures same { reader.new.text ≡ reader.old.text }
-    ensures onward { reader.old.at ≤ reader.new.at }
-    ensures said { SaidOn (λ K. from reader.old.text.now reader.old.at (more_or depth ∷ K)) (phrase left.entry) reader.old.text.now result reader.new.at }
-{
-    let Some(_) = reader.take_key(Keyword::Or) else {
-        return Ok(left);
-    };
-    let right = conjunction(reader, heap, depth)?;
-    let either = Phrase::or(heap, left, right)?;
-    or_more(reader, heap, depth, either)
+    // conj { or conj }
+    #[cycle(bracketed_condition_conjunction_negated_negation)]
+    pub(crate) fn condition(&mut self, depth: u8) -> Result<Phrase<'a>, Refusal>
+        ensures onward { Onward self.old self.new }
+        ensures said { Reads (λ K. a_condition depth K) self.old result self.new }
+    {
+        let mut left = self.conjunction(depth)?;
+        while self.reader.take_key(Keyword::Or).is_some() {
+            let right = self.conjunction(depth)?;
+            left = Phrase::or(self.heap, left, right)?;
+        }
+        Ok(left)
+    }
 }

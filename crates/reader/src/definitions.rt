@@ -1,182 +1,122 @@
 //! Definitions, read by recursion: remaining depth and remaining text fall at each call.
-ghost use Rattle.std.specs.Prelude.{◌≡◌, ◌≤◌, [], ◌∷◌, ◌++◌};
-ghost use Rattle.grammar.specs.Phrases.{join, placed};
-ghost use Rattle.grammar.specs.Reading.{a_closing, a_condition, a_definition, a_select, a_source, a_step, complete, drop_column, more_steps, rename_column};
-ghost use Rattle.phrases.specs.Written.{all_placed, step as step_of};
-ghost use Rattle.reader.specs.Saying.{Next, from};
-ghost use Rattle.reader.specs.Stepping.{Built, Stepped, on_table, table};
+ghost use Rattle.std.specs.Prelude.{◌<◌, ◌∷◌, IfOk, IfSome};
+ghost use Rattle.grammar.specs.Reading.{a_closing, a_condition, a_definition, a_select, a_source, complete, drop_column, rename_column};
+ghost use Rattle.phrases.specs.Written.{all_placed};
+ghost use Rattle.reader.specs.Parsing.{Builds, Continues, Onward, ReadsStep};
 
-use crate::connectives::condition;
-use crate::nexts::{next_closing, next_constant, next_key, next_word};
-use crate::terminals::{deeper, wanted, word};
+use crate::parser::Parser;
+use crate::terminals::{constant, deeper, table, word};
 use cells::Refusal;
 use phrases::{Placed, Step};
-use signs::{Keyword, Reader};
-use std::alloc::Global;
+use signs::Keyword;
 
-// The word of a table, with its place.
-fn next_table<'a>(reader: &mut Reader<'a>) -> Result<(usize, &'a [u8]), Refusal>
-    ensures same { reader.new.text ≡ reader.old.text }
-    ensures onward { reader.old.at ≤ reader.new.at }
-    ensures next { Next on_table table reader.old.text.now reader.old.at result reader.new.at }
-{
-    let token = wanted(reader)?;
-    let w = word(token)?;
-    Ok((token.place, w))
-}
-
-// What follows a select.
-fn selected<'a>(reader: &mut Reader<'a>, heap: Global, depth: u8) -> Result<Step<'a>, Refusal>
-    ensures same { reader.new.text ≡ reader.old.text }
-    ensures onward { reader.old.at ≤ reader.new.at }
-    ensures said { Stepped (λ p K. from reader.old.text.now reader.old.at (a_condition depth (complete (a_select p) ∷ K))) reader.old.text.now result reader.new.at }
-{
-    let phrase = condition(reader, heap, depth)?;
-    Ok(Step::Select(phrase))
-}
-
-// What follows a drop.
-fn dropped<'a>(reader: &mut Reader<'a>) -> Result<Step<'a>, Refusal>
-    ensures same { reader.new.text ≡ reader.old.text }
-    ensures onward { reader.old.at ≤ reader.new.at }
-    ensures said { Stepped (λ p K. from reader.old.text.now reader.old.at (drop_column p ∷ K)) reader.old.text.now result reader.new.at }
-{
-    let column = next_word(reader)?;
-    next_key(reader, Keyword::Default)?;
-    let value = next_constant(reader)?;
-    Ok(Step::Drop(column, value))
-}
-
-// What follows a rename.
-fn renamed<'a>(reader: &mut Reader<'a>) -> Result<Step<'a>, Refusal>
-    ensures same { reader.new.text ≡ reader.old.text }
-    ensures onward { reader.old.at ≤ reader.new.at }
-    ensures said { Stepped (λ p K. from reader.old.text.now reader.old.at (rename_column p ∷ K)) reader.old.text.now result reader.new.at }
-{
-    let column = next_word(reader)?;
-    next_key(reader, Keyword::As)?;
-    let new = next_word(reader)?;
-    Ok(Step::Rename(column, new))
-}
-
-// A table, or a definition in brackets.
-#[cycle(add_definition_joined_nested_source_step_more)]
-fn source<'a>(
-    reader: &mut Reader<'a>,
-    heap: Global,
-    depth: u8,
-    steps: &mut Vec<Placed<'a>>,
-) -> Result<(), Refusal>
-    ensures same { reader.new.text ≡ reader.old.text }
-    ensures onward { reader.old.at ≤ reader.new.at }
-    ensures built { Built (λ K. from reader.old.text.now reader.old.at (a_source depth ∷ K)) reader.old.text.now (all_placed steps.old.items) (all_placed steps.new.items) result reader.new.at }
-{
-    if let Some(place) = reader.take_opening() {
-        let depth = deeper(depth, place)?;
-        return nested(reader, heap, depth, steps);
+impl<'a> Parser<'a> {
+    // What follows a select.
+    fn selected(&mut self, depth: u8) -> Result<Step<'a>, Refusal>
+        ensures onward { Onward self.old self.new }
+        ensures said { ReadsStep (λ p K. a_condition depth (complete (a_select p) ∷ K)) self.old result self.new }
+    {
+        let phrase = self.condition(depth)?;
+        Ok(Step::Select(phrase))
     }
-    let (place, table) = next_table(reader)?;
-    steps.push(Placed {
-        step: Step::Source(table),
-        place,
-    })?;
-    Ok(())
-}
 
-// What stands in brackets, and the closing one.
-#[cycle(add_definition_joined_nested_source_step_more)]
-fn nested<'a>(
-    reader: &mut Reader<'a>,
-    heap: Global,
-    depth: u8,
-    steps: &mut Vec<Placed<'a>>,
-) -> Result<(), Refusal>
-    ensures same { reader.new.text ≡ reader.old.text }
-    ensures onward { reader.old.at ≤ reader.new.at }
-    ensures built { Built (λ K. from reader.old.text.now reader.old.at (a_definition depth (a_closing ∷ K))) reader.old.text.now (all_placed steps.old.items) (all_placed steps.new.items) result reader.new.at }
-{
-    definition(reader, heap, depth, steps)?;
-    next_closing(reader)?;
-    Ok(())
-}
-
-// source { step }
-#[cycle(add_definition_joined_nested_source_step_more)]
-pub(crate) fn definition<'a>(
-    reader: &mut Reader<'a>,
-    heap: Global,
-    depth: u8,
-    steps: &mut Vec<Placed<'a>>,
-) -> Result<(), Refusal>
-    ensures same { reader.new.text ≡ reader.old.text }
-    ensures onward { reader.old.at ≤ reader.new.at }
-    ensures built { Built (λ K. from reader.old.text.now reader.old.at (a_definition depth K)) reader.old.text.now (all_placed steps.old.items) (all_placed steps.new.items) result reader.new.at }
-{
-    source(reader, heap, depth, steps)?;
-    step_more(reader, heap, depth, steps)
-}
-
-// { step }
-#[cycle(add_definition_joined_nested_source_step_more)]
-fn step_more<'a>(
-    reader: &mut Reader<'a>,
-    heap: Global,
-    depth: u8,
-    steps: &mut Vec<Placed<'a>>,
-) -> Result<(), Refusal>
-    ensures same { reader.new.text ≡ reader.old.text }
-    ensures onward { reader.old.at ≤ reader.new.at }
-    ensures built { Built (λ K. from reader.old.text.now reader.old.at (more_steps depth ∷ K)) reader.old.text.now (all_placed steps.old.items) (all_placed steps.new.items) result reader.new.at }
-{
-    if let Some(place) = reader.take_key(Keyword::Join) {
-        return joined(reader, heap, depth, steps, place);
+    // What follows a drop.
+    fn dropped(&mut self) -> Result<Step<'a>, Refusal>
+        ensures onward { Onward self.old self.new }
+        ensures said { ReadsStep (λ p K. drop_column p ∷ K) self.old result self.new }
+    {
+        let column = self.next(word)?;
+        self.expect(|sign| sign.is_key(Keyword::Default))?;
+        let value = self.next(constant)?;
+        Ok(Step::Drop(column, value))
     }
-    if let Some(place) = reader.take_key(Keyword::Select) {
-        let step = selected(reader, heap, depth)?;
-        return add(reader, heap, depth, steps, step, place);
-    }
-    if let Some(place) = reader.take_key(Keyword::Drop) {
-        let step = dropped(reader)?;
-        return add(reader, heap, depth, steps, step, place);
-    }
-    if let Some(place) = reader.take_key(Keyword::Rename) {
-        let step = renamed(reader)?;
-        return add(reader, heap, depth, steps, step, place);
-    }
-    Ok(())
-}
 
-// What follows a join, and the steps behind it.
-#[cycle(add_definition_joined_nested_source_step_more)]
-fn joined<'a>(
-    reader: &mut Reader<'a>,
-    heap: Global,
-    depth: u8,
-    steps: &mut Vec<Placed<'a>>,
-    place: usize,
-) -> Result<(), Refusal>
-    ensures same { reader.new.text ≡ reader.old.text }
-    ensures onward { reader.old.at ≤ reader.new.at }
-    ensures built { Built (λ K. from reader.old.text.now reader.old.at (a_source depth ∷ complete (a_step (placed place join)) ∷ more_steps depth ∷ K)) reader.old.text.now (all_placed steps.old.items) (all_placed steps.new.items) result reader.new.at }
-{
-    source(reader, heap, depth, steps)?;
-    add(reader, heap, depth, steps, Step::Join, place)
-}
+    // What follows a rename.
+    fn renamed(&mut self) -> Result<Step<'a>, Refusal>
+        ensures onward { Onward self.old self.new }
+        ensures said { ReadsStep (λ p K. rename_column p ∷ K) self.old result self.new }
+    {
+        let column = self.next(word)?;
+        self.expect(|sign| sign.is_key(Keyword::As))?;
+        let new = self.next(word)?;
+        Ok(Step::Rename(column, new))
+    }
 
-// A step that was read, and those behind it.
-#[cycle(add_definition_joined_nested_source_step_more)]
-fn add<'a>(
-    reader: &mut Reader<'a>,
-    heap: Global,
-    depth: u8,
-    steps: &mut Vec<Placed<'a>>,
-    step: Step<'a>,
-    place: usize,
-) -> Result<(), Refusal>
-    ensures same { reader.new.text ≡ reader.old.text }
-    ensures onward { reader.old.at ≤ reader.new.at }
-    ensures built { Built (λ K. from reader.old.text.now reader.old.at (more_steps depth ∷ K)) reader.old.text.now (all_placed steps.old.items ++ (placed place (step_of step.entry) ∷ [])) (all_placed steps.new.items) result reader.new.at }
-{
-    steps.push(Placed { step, place })?;
-    step_more(reader, heap, depth, steps)
+    // A table, or a definition in brackets.
+    #[cycle(definition_nested_source_step)]
+    fn source(&mut self, depth: u8, steps: &mut Vec<Placed<'a>>) -> Result<(), Refusal>
+        ensures onward { Onward self.old self.new }
+        ensures built { Builds (λ K. a_source depth ∷ K) self.old (all_placed steps.old.items) (all_placed steps.new.items) result self.new }
+    {
+        if let Some(place) = self.reader.take_opening() {
+            let depth = deeper(depth, place)?;
+            return self.nested(depth, steps);
+        }
+        let (place, table) = self.next(table)?;
+        steps.push(Placed {
+            step: Step::Source(table),
+            place,
+        })?;
+        Ok(())
+    }
+
+    // What stands in brackets, and the closing one.
+    #[cycle(definition_nested_source_step)]
+    fn nested(&mut self, depth: u8, steps: &mut Vec<Placed<'a>>) -> Result<(), Refusal>
+        ensures onward { Onward self.old self.new }
+        ensures built { Builds (λ K. a_definition depth (a_closing ∷ K)) self.old (all_placed steps.old.items) (all_placed steps.new.items) result self.new }
+    {
+        self.definition(depth, steps)?;
+        self.expect(|sign| sign.is_closing())
+    }
+
+    // source { step }
+    #[cycle(definition_nested_source_step)]
+    pub(crate) fn definition(
+        &mut self,
+        depth: u8,
+        steps: &mut Vec<Placed<'a>>,
+    ) -> Result<(), Refusal>
+        ensures onward { Onward self.old self.new }
+        ensures built { Builds (λ K. a_definition depth K) self.old (all_placed steps.old.items) (all_placed steps.new.items) result self.new }
+    {
+        self.source(depth, steps)?;
+        while let Some(placed) = self.step(depth, steps)? {
+            steps.push(placed)?;
+        }
+        Ok(())
+    }
+
+    // A further step, if there is one. The steps of what a join takes come before it.
+    #[cycle(definition_nested_source_step)]
+    fn step(
+        &mut self,
+        depth: u8,
+        steps: &mut Vec<Placed<'a>>,
+    ) -> Result<Option<Placed<'a>>, Refusal>
+        ensures onward { Onward self.old self.new }
+        ensures passed { IfOk result (λ o. IfSome o (λ _. self.old.reader.at < self.new.reader.at)) }
+        ensures further { Continues depth self.old (all_placed steps.old.items) (all_placed steps.new.items) result self.new }
+    {
+        if let Some(place) = self.reader.take_key(Keyword::Join) {
+            self.source(depth, steps)?;
+            return Ok(Some(Placed {
+                step: Step::Join,
+                place,
+            }));
+        }
+        if let Some(place) = self.reader.take_key(Keyword::Select) {
+            let step = self.selected(depth)?;
+            return Ok(Some(Placed { step, place }));
+        }
+        if let Some(place) = self.reader.take_key(Keyword::Drop) {
+            let step = self.dropped()?;
+            return Ok(Some(Placed { step, place }));
+        }
+        if let Some(place) = self.reader.take_key(Keyword::Rename) {
+            let step = self.renamed()?;
+            return Ok(Some(Placed { step, place }));
+        }
+        Ok(None)
+    }
 }

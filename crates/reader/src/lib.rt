@@ -3,7 +3,7 @@
 
 mod connectives;
 mod definitions;
-mod nexts;
+mod parser;
 mod reading;
 mod terminals;
 

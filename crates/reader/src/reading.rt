@@ -3,42 +3,24 @@ ghost use Rattle.std.specs.Prelude.{◌≡◌, [], ◌∷◌, IfOk};
 ghost use Rattle.std.specs.Option.{option_map};
 ghost use Rattle.cells.specs.Answering.{Answers};
 ghost use Rattle.cells.specs.Numbered.{told};
-ghost use Rattle.grammar.specs.Reading.{a_definition, condition_fault, condition_trees, definition_fault, definition_steps};
+ghost use Rattle.grammar.specs.Reading.{condition_fault, condition_trees, definition_fault, definition_steps, read_definition};
 ghost use Rattle.phrases.specs.Written.{all_placed, phrase};
-ghost use Rattle.reader.specs.Saying.{Ends, from};
 ghost use Rattle.reader.specs.Stepping.{Whole};
 
-use crate::connectives::condition;
-use crate::definitions::definition;
-use cells::{Cause, Fault, Refusal, refused};
+use crate::parser::Parser;
+use cells::{Fault, Refusal};
 use phrases::{Phrase, Placed};
-use signs::Reader;
 use std::alloc::{AllocError, Global};
 
-const LONGEST: usize = 256;
-
 const DEEPEST: u8 = 8;
-
-// No sign may follow.
-fn check_end(reader: &mut Reader<'_>) -> Result<(), Refusal>
-    ensures { Ends reader.old.text.now reader.old.at result }
-{
-    match reader.next() {
-        Some(token) => Err(refused(Cause::Grammar, 0, token.place)),
-        None => Ok(()),
-    }
-}
 
 // The condition that a text is.
 pub fn read_condition<'a>(heap: Global, text: &'a [u8]) -> Result<Phrase<'a>, Refusal>
     ensures { Answers (condition_fault text.now) (λ k. condition_trees text.now ≡ phrase k ∷ []) result }
 {
-    if text.len() > LONGEST {
-        return Err(refused(Cause::Size, 0, LONGEST));
-    }
-    let mut reader = Reader::new(text);
-    let phrase = condition(&mut reader, heap, DEEPEST)?;
-    check_end(&mut reader)?;
+    let mut parser = Parser::new(heap, text)?;
+    let phrase = parser.condition(DEEPEST)?;
+    parser.end()?;
     Ok(phrase)
 }
 
@@ -50,15 +32,12 @@ pub struct Definition<'a> {
 }
 
 // A whole definition, step by step.
-fn read_steps<'a>(
-    reader: &mut Reader<'a>,
-    heap: Global,
-    steps: &mut Vec<Placed<'a>>,
-) -> Result<(), Refusal>
-    ensures { Whole (from reader.old.text.now reader.old.at (a_definition 8 [])) (all_placed steps.old.items) (all_placed steps.new.items) result }
+fn read_steps<'a>(heap: Global, text: &'a [u8], steps: &mut Vec<Placed<'a>>) -> Result<(), Refusal>
+    ensures { Whole (read_definition text.now) (all_placed steps.old.items) (all_placed steps.new.items) result }
 {
-    definition(reader, heap, DEEPEST, steps)?;
-    check_end(reader)
+    let mut parser = Parser::new(heap, text)?;
+    parser.definition(DEEPEST, steps)?;
+    parser.end()
 }
 
 // The definition that a text is, as far as it can be read.
@@ -67,21 +46,10 @@ pub fn read_definition<'a>(heap: Global, text: &'a [u8]) -> Result<Definition<'a
     ensures fault { IfOk result (λ d. option_map told d.fault ≡ definition_fault text.now) }
 {
     let mut steps = Vec::new(heap);
-    if text.len() > LONGEST {
-        let fault = Some(Fault {
-            cause: Cause::Size,
-            kind: 0,
-            place: LONGEST,
-        });
-        return Ok(Definition { steps, fault });
-    }
-    let mut reader = Reader::new(text);
-    match read_steps(&mut reader, heap, &mut steps) {
-        Ok(()) => Ok(Definition { steps, fault: None }),
-        Err(Refusal::Fault(fault)) => Ok(Definition {
-            steps,
-            fault: Some(fault),
-        }),
-        Err(Refusal::Memory) => Err(AllocError),
-    }
+    let fault = match read_steps(heap, text, &mut steps) {
+        Ok(()) => None,
+        Err(Refusal::Fault(fault)) => Some(fault),
+        Err(Refusal::Memory) => return Err(AllocError),
+    };
+    Ok(Definition { steps, fault })
 }
