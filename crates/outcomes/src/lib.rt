@@ -1,14 +1,12 @@
 //! What comes of a command, and how it is printed.
 #![tactic(auto)]
 
-ghost use Rattle.std.specs.Prelude.{◌≡◌, ◌<◌, ◌++◌, IfOk, string_bytes, codes, decimal, OnOk};
-ghost use Rattle.cells.specs.Held.{tuple, tuples};
-ghost use Rattle.cells.specs.Numbered.{told};
-ghost use Rattle.outcomes.specs.Printed.{newline, hex_digit, hex_pair, hex_text, bank_text, fault_text, text_of};
-ghost use Rattle.outcomes.specs.Printed.{row_line, rows_text, listing};
+ghost use Rattle.std.specs.Prelude.{Some};
+ghost use Rattle.cells.specs.Held.{tuples};
+ghost use Rattle.outcomes.specs.Printed.{hex_text, rows_text, text_of};
 
 use cells::{Fault, Row};
-use std::alloc::{AllocError, Global};
+use std::fmt;
 
 #[derive(Drop)]
 pub enum Outcome {
@@ -27,88 +25,6 @@ pub enum Outcome {
     NoMemory,
 }
 
-fn hex_digit(n: u8) -> char
-    requires { n < 16 }
-    ensures { result ≡ hex_digit n }
-{
-    if n < 10 {
-        char::from(b'0' + n)
-    } else {
-        char::from(b'A' + (n - 10))
-    }
-}
-
-// Writes a byte as a space and two hexadecimal digits.
-fn push_pair(out: &mut String, b: u8) -> Result<(), AllocError>
-    ensures { OnOk result (string_bytes out.new ≡ string_bytes out.old ++ hex_pair b) }
-{
-    out.push_str(" ")?;
-    out.push(hex_digit(b / 16))?;
-    out.push(hex_digit(b % 16))?;
-    Ok(())
-}
-
-fn push_hex(out: &mut String, bytes: &[u8]) -> Result<(), AllocError>
-    ensures { OnOk result (string_bytes out.new ≡ string_bytes out.old ++ hex_text bytes.now) }
-{
-    for b in bytes {
-        push_pair(out, *b)?;
-    }
-    Ok(())
-}
-
-fn push_row(out: &mut String, heap: Global, row: &Row) -> Result<(), AllocError>
-    ensures { OnOk result (string_bytes out.new ≡ string_bytes out.old ++ row_line (tuple row.now)) }
-{
-    let text = format!(in heap; "{row}\n")?;
-    out.push_str(text.as_str())?;
-    Ok(())
-}
-
-fn push_rows(out: &mut String, heap: Global, rows: &[Row]) -> Result<(), AllocError>
-    ensures { OnOk result (string_bytes out.new ≡ string_bytes out.old ++ rows_text (tuples rows.now)) }
-{
-    for row in rows {
-        push_row(out, heap, row)?;
-    }
-    Ok(())
-}
-
-fn bank_text(heap: Global, bytes: &[u8]) -> Result<String, AllocError>
-    ensures { IfOk result (λ s. string_bytes s ≡ bank_text bytes.now) }
-{
-    let n = bytes.len();
-    let mut text = format!(in heap; "bank {n}")?;
-    push_hex(&mut text, bytes)?;
-    text.push_str("\n")?;
-    Ok(text)
-}
-
-fn rows_text(heap: Global, rows: &[Row]) -> Result<String, AllocError>
-    ensures { IfOk result (λ s. string_bytes s ≡ listing (tuples rows.now)) }
-{
-    let n = rows.len();
-    let mut text = format!(in heap; "rows {n}\n")?;
-    push_rows(&mut text, heap, rows)?;
-    Ok(text)
-}
-
-fn fault_text(heap: Global, fault: Fault) -> Result<String, AllocError>
-    ensures { IfOk result (λ s. string_bytes s ≡ fault_text (told fault)) }
-{
-    let number = fault.cause.number();
-    let kind = fault.kind;
-    let place = fault.place;
-    let text = format!(in heap; "refused {number} kind {kind} place {place}\n")?;
-    Ok(text)
-}
-
-fn room_text(heap: Global, room: usize) -> Result<String, AllocError>
-    ensures { IfOk result (λ s. string_bytes s ≡ codes "sealed room " ++ (decimal room ++ newline)) }
-{
-    format!(in heap; "sealed room {room}\n")
-}
-
 // The commands, a line each.
 const HELP: &str = "\
 help
@@ -125,25 +41,67 @@ read NAME PATH
 write NAME PATH
 ";
 
-impl Outcome {
-    // What is printed of the outcome: a line, and a line for each row that it holds.
-    pub fn text(&self, heap: Global) -> Result<String, AllocError>
-        ensures { IfOk result (λ s. string_bytes s ≡ text_of self.now) }
-    {
+// A line, and a line for each row that the outcome holds.
+impl fmt::Display for Outcome {
+    ghost output = { λ o. Some (text_of o) };
+
+    fn fmt<W: fmt::Write>(&self, f: &mut fmt::Formatter<W>) -> fmt::Result {
         match self {
-            Outcome::Help => String::from_str(heap, HELP),
-            Outcome::Accepted => String::from_str(heap, "ok\n"),
-            Outcome::Fresh => String::from_str(heap, "fresh\n"),
-            Outcome::Sealed(room) => room_text(heap, *room),
-            Outcome::Bank(bytes) => bank_text(heap, bytes.as_slice()),
-            Outcome::Rows(rows) => rows_text(heap, rows.as_slice()),
-            Outcome::Wrote(size) => format!(in heap; "wrote {size}\n"),
-            Outcome::Refused(fault) => fault_text(heap, *fault),
-            Outcome::BadLine => String::from_str(heap, "bad line\n"),
-            Outcome::OutOfTurn => String::from_str(heap, "out of turn\n"),
-            Outcome::NoTable => String::from_str(heap, "no table\n"),
-            Outcome::NoFile => String::from_str(heap, "no file\n"),
-            Outcome::NoMemory => String::from_str(heap, "no memory\n"),
+            Outcome::Help => f.write_str(HELP),
+            Outcome::Accepted => writeln!(f, "ok"),
+            Outcome::Fresh => writeln!(f, "fresh"),
+            Outcome::Sealed(room) => writeln!(f, "sealed room {room}"),
+            Outcome::Bank(bytes) => {
+                let bytes = bytes.as_slice();
+                writeln!(f, "bank {}{}", bytes.len(), Hex(bytes))
+            }
+            Outcome::Rows(rows) => {
+                let rows = rows.as_slice();
+                write!(f, "rows {}\n{}", rows.len(), Lines(rows))
+            }
+            Outcome::Wrote(size) => writeln!(f, "wrote {size}"),
+            Outcome::Refused(fault) => writeln!(
+                f,
+                "refused {} kind {} place {}",
+                fault.cause.number(),
+                fault.kind,
+                fault.place
+            ),
+            Outcome::BadLine => writeln!(f, "bad line"),
+            Outcome::OutOfTurn => writeln!(f, "out of turn"),
+            Outcome::NoTable => writeln!(f, "no table"),
+            Outcome::NoFile => writeln!(f, "no file"),
+            Outcome::NoMemory => writeln!(f, "no memory"),
         }
+    }
+}
+
+// Each byte as a space and two hexadecimal digits.
+#[derive(Clone, Copy)]
+struct Hex<'a>(&'a [u8]);
+
+impl fmt::Display for Hex<'_> {
+    ghost output = { λ h. Some (hex_text h.0.now) };
+
+    fn fmt<W: fmt::Write>(&self, f: &mut fmt::Formatter<W>) -> fmt::Result {
+        for &b in self.0 {
+            write!(f, " {b:02X}")?;
+        }
+        Ok(())
+    }
+}
+
+// Each row on its line.
+#[derive(Clone, Copy)]
+struct Lines<'a>(&'a [Row]);
+
+impl fmt::Display for Lines<'_> {
+    ghost output = { λ l. Some (rows_text (tuples l.0.now)) };
+
+    fn fmt<W: fmt::Write>(&self, f: &mut fmt::Formatter<W>) -> fmt::Result {
+        for row in self.0 {
+            writeln!(f, "{row}")?;
+        }
+        Ok(())
     }
 }
