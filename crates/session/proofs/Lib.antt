@@ -1,4 +1,3 @@
-pub mod Widths
-pub mod Checks
+pub mod Places
 pub mod Steps
 pub mod Loads

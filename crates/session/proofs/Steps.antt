@@ -1,80 +1,70 @@
 -- What a session replies, step by step.
-use Rattle.std.proofs.Common.{◌≡◌, ℕ, List, [], ◌∷◌, ◌++◌, set, IfErr, Some, None, Ok, Err, Option, Result, sym, ap, ◌∙◌}
-use Rattle.std.specs.declared.alloc.AllocError.{AllocError}
+use Rattle.std.proofs.Common.{◌≡◌, ℕ, List, map, Some, None, Ok, Err, vec_items, Option, Result, sym, refl, ap, ◌∙◌, subst}
+use Rattle.std.specs.List.{position}
+use Rattle.std.specs.Option.{ok_or}
 use Rattle.model.specs.Faults.{Fault}
-use Rattle.model.specs.Sorts.{Sort}
+use Rattle.model.specs.Sorts.{Column}
+use Rattle.model.specs.Values.{find}
 use Rattle.cells.specs.Answering.{Answers}
 use Rattle.cells.specs.Numbered.{told}
+use Rattle.cells.specs.Worded.{letters}
 use Rattle.cells.specs.declared.faults.Refusal.{Refusal}
 use Rattle.cells.specs.declared.faults.Refusal.TheVariants as refusal
+use Rattle.commands.specs.declared.parsing.Storage.{Storage}
 use Rattle.outcomes.specs.declared.Outcome.{Outcome}
-use Rattle.model.specs.Values.{Relation, find}
-use Rattle.model.specs.Banks.{Reading}
-use Rattle.model.specs.Banks as banks
-use Rattle.session.specs.Callers.{Kept, begun, sealed, seal_reply, is_named, unless_drafting, on_found, on_table, holding, with_rows, loaded}
-use Rattle.session.specs.Callers.{Caller, Drafted, Reply, answer, ok, refused, Heard, Replies, when_describing, on_draft, unless_fault, drafting, describes}
+use Rattle.outcomes.specs.declared.Outcome.TheVariants as outcome
+use Rattle.sorts.specs.Describing.{table_fault, of_columns}
+use Rattle.sorts.specs.Described.{described}
+use Rattle.sorts.specs.declared.table.NewTable.{NewTable}
+use Rattle.session.specs.Callers.{Caller, Reply, Placed, Reached, Replies, answer, ok, refused, caller, drafting, is_named, names, on_found, stored, table_reply, unless_drafting, unless_fault}
+use Rattle.session.specs.Stopped.{ended, stopped}
+use Rattle.session.specs.declared.tables.Session.{Session}
+use Rattle.session.specs.declared.tables.Table.{Table}
+use Rattle.session.proofs.Places.{names_are, placed}
 
 -- a reply that is known
 pub replied : (c : Caller) (r s : Reply) (o : Outcome) (c' : Caller) → r ≡ s → answer o ≡ s.0 → c' ≡ s.1 → Replies c r (Ok o) c'
 replied c r s o c' e a k = (a ∙ sym (ap (λ x. x.0) e), k ∙ sym (ap (λ x. x.1) e))
 
--- a step of a description, which leaves it as it was where it is refused
-module _ (c : Caller) (d : Drafted) (e : c.draft ≡ Some d) (due : Drafted → Option Fault) (then : Drafted → Sort) (after : Sort) where
-  abbrev reply : Reply
-  reply = when_describing c (λ x. unless_fault (due x) c (drafting c (describes x (then x))))
+-- the place of a table that was looked for while the session is idle
+pub reached : (s : Session) (n : List ℕ) (ts : List Table) (o : Option ℕ) (r : Result ℕ Outcome) → (caller s).draft ≡ None → ts ≡ vec_items s.tables → o ≡ position (λ t. is_named n (stored t)) ts → r ≡ ok_or o outcome.NoTable → Reached s n r
+reached s n ts o r idle all e is = subst (Reached s n) (sym is) (answers o (subst (λ l. Placed l n o) all (placed n ts o e)))
+  where
+    c : Caller
+    c = caller s
 
-  abbrev next : Caller
-  next = record { tables = c.tables; draft = Some (describes d after) }
+    answers : (x : Option ℕ) → Placed (vec_items s.tables) n x → Reached s n (ok_or x outcome.NoTable)
+    answers (Some i) p = (idle, p)
+    answers None p = λ f. ap (λ x. unless_drafting x c (on_found (find (is_named n) c.tables) c f)) idle ∙ ap (λ x. on_found x c f) p
 
-  reply_is : reply ≡ unless_fault (due d) c (drafting c (describes d (then d)))
-  reply_is = ap (λ o. on_draft o c (λ x. unless_fault (due x) c (drafting c (describes x (then x))))) e
+-- a table that a session begins to describe
+module _ (s : Session) (n : List ℕ) (storage : Storage) (room : ℕ) (C : List Column) (ts : List Table) (idle : (caller s).draft ≡ None) (all : ts ≡ vec_items s.tables) where
+  abbrev c : Caller
+  c = caller s
 
-  unchanged : after ≡ d.sort → next ≡ c
-  unchanged k = ap (λ S. record { tables = c.tables; draft = Some (describes d S) }) k ∙ ap (λ o. record { tables = c.tables; draft = o }) (sym e)
+  abbrev then : Caller
+  then = drafting c (record { name = n; storage = storage; room = room; sort = of_columns C })
 
-  pub described_step : (x : Result (Unit {0}) Refusal) (r : Result Outcome AllocError) → Answers (due d) (λ _. after ≡ then d) x → IfErr x (λ _. after ≡ d.sort) → Heard x r → Replies c reply r next
-  described_step (Ok u) (Ok o) a k h =
-      replied c reply (ok, drafting c (describes d (then d))) o next (reply_is ∙ ap (λ f. unless_fault f c (drafting c (describes d (then d)))) a.0) (ap answer h) (ap (λ S. record { tables = c.tables; draft = Some (describes d S) }) a.1)
-  described_step (Ok u) (Err z) a k h = absurd h
-  described_step (Err (refusal.Fault f)) (Ok o) a k h =
-      replied c reply (refused (told f), c) o next (reply_is ∙ ap (λ g. unless_fault g c (drafting c (describes d (then d)))) a) (ap answer h) (unchanged k)
-  described_step (Err (refusal.Fault f)) (Err z) a k h = absurd h
-  described_step (Err refusal.Memory) (Ok o) a k h = absurd h
-  described_step (Err refusal.Memory) (Err z) a k h = unchanged k
+  abbrev due : Option Fault
+  due = table_fault (map (λ t. letters t.name) ts) n C room
 
--- a draft that is sealed
-pub seal_step : (c : Caller) (d : Drafted) (t : Kept) (n : ℕ) (T : List Kept) (o : Option Drafted) → c.draft ≡ Some d → t ≡ begun d → n ≡ (begun d).room → T ≡ c.tables ++ (t ∷ []) → o ≡ None → (sealed n ≡ (seal_reply c).0) × (record { tables = T; draft = o } ≡ (seal_reply c).1)
-seal_step c d t n T o e k r m z =
-    let is = ap (λ x. on_draft x c (λ y. (sealed (begun y).room, record { tables = c.tables ++ (begun y ∷ []); draft = None }))) e in (
-      ap sealed r ∙ sym (ap (λ x. x.0) is),
-      ap (λ x. record { tables = x; draft = o }) (m ∙ ap (λ x. c.tables ++ (x ∷ [])) k) ∙ ap (λ x. record { tables = c.tables ++ (begun d ∷ []); draft = x }) z ∙ sym (ap (λ x. x.1) is),
-    )
+  reply_is : (d : Option Fault) → due ≡ d → table_reply c n storage room C ≡ unless_fault d c then
+  reply_is d e =
+      ap (λ x. unless_drafting x c (unless_fault (table_fault (names c.tables) n C room) c then)) idle
+      ∙ ap (λ N. unless_fault (table_fault N n C room) c then) (sym (names_are (vec_items s.tables)))
+      ∙ ap (λ l. unless_fault (table_fault (map (λ t. letters t.name) l) n C room) c then) (sym all)
+      ∙ ap (λ x. unless_fault x c then) e
 
--- a call on the table of a name
-module _ (c : Caller) (n : List ℕ) (t : Kept) (idle : c.draft ≡ None) (found : find (is_named n) c.tables ≡ Some t) where
-  pub on_table_is : (f : Kept → Reply) → on_table c n f ≡ f t
-  on_table_is f =
-      ap (λ o. unless_drafting o c (on_found (find (is_named n) c.tables) c f)) idle ∙ ap (λ o. on_found o c f) found
+  abbrev asked : NewTable → Type 0
+  asked t = (letters t.name ≡ n) × (described t.sort ≡ of_columns C) × (t.room ≡ room)
 
--- a bank that is read: accepted, its rows are those of the table, and else nothing changes
-abbrev pub ReadsBank : Reading → Kept → Kept → Result (Unit {0}) Refusal → Type 0
-ReadsBank o old new (Ok u) = (R : Relation) × (o ≡ banks.accepted R) × (new ≡ holding old R)
-ReadsBank o old new (Err (refusal.Fault f)) = (o ≡ banks.refused (told f)) × (new ≡ old)
-ReadsBank o old new (Err refusal.Memory) = new ≡ old
+  pub table_refused : (e : Refusal) → Answers due asked (Err e) → Replies c (table_reply c n storage room C) (ended (Err (stopped e))) c
+  table_refused (refusal.Fault f) a = replied c _ (refused (told f), c) (outcome.Refused f) c (reply_is (Some (told f)) a) refl refl
+  table_refused refusal.Memory a = refl
 
-module _ (c : Caller) (n b : List ℕ) (old new : Kept) (i : ℕ) (T : List Kept) (idle : c.draft ≡ None) (found : find (is_named n) c.tables ≡ Some old) (place : (R : Relation) → with_rows n R c.tables ≡ set c.tables i (holding old R)) (same : set c.tables i old ≡ c.tables) (after : T ≡ set c.tables i new) where
-  abbrev loads : Kept → Reply
-  loads t = loaded c n (banks.read_bank t.kind t.sort t.room b)
-
-  kept_if : new ≡ old → record { tables = T; draft = c.draft } ≡ c
-  kept_if k = ap (λ x. record { tables = x; draft = c.draft }) (after ∙ ap (set c.tables i) k ∙ same)
-
-  pub load_step : (r : Reply) → r ≡ loads old → (x : Result (Unit {0}) Refusal) (o : Result Outcome AllocError) → ReadsBank (banks.read_bank old.kind old.sort old.room b) old new x → Heard x o → Replies c r o (record { tables = T; draft = c.draft })
-  load_step r is (Ok u) (Ok o) a h =
-      let R = a.0 in
-      replied c r (ok, record { tables = with_rows n R c.tables; draft = c.draft }) o _ (is ∙ ap (loaded c n) a.1) (ap answer h) (ap (λ x. record { tables = x; draft = c.draft }) (after ∙ ap (set c.tables i) a.2 ∙ sym (place R)))
-  load_step r is (Ok u) (Err z) a h = absurd h
-  load_step r is (Err (refusal.Fault f)) (Ok o) a h = replied c r (refused (told f), c) o _ (is ∙ ap (loaded c n) a.0) (ap answer h) (kept_if a.1)
-  load_step r is (Err (refusal.Fault f)) (Err z) a h = absurd h
-  load_step r is (Err refusal.Memory) (Ok o) a h = absurd h
-  load_step r is (Err refusal.Memory) (Err z) a h = kept_if a
+  pub table_begun : (t : NewTable) → Answers due asked (Ok t) → Replies c (table_reply c n storage room C) (ended (Ok outcome.Accepted)) (caller (record { tables = s.tables; draft = Some (record { table = t; storage = storage }) }))
+  table_begun t a =
+      replied c _ (ok, then) outcome.Accepted _ (reply_is None a.0) refl
+      (ap (λ x. drafting c (record { name = x; storage = storage; room = t.room; sort = described t.sort })) a.1.0
+      ∙ ap (λ x. drafting c (record { name = n; storage = storage; room = t.room; sort = x })) a.1.1
+      ∙ ap (λ x. drafting c (record { name = n; storage = storage; room = x; sort = of_columns C })) a.1.2)

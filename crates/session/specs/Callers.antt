@@ -1,5 +1,6 @@
 -- What a caller holds, and what comes of each call.
-use Rattle.std.specs.Prelude.{◌≡◌, ℕ, ◌+◌, ◌-◌, ◌/◌, ◌<◌, min, Bool, cond, List, [], ◌∷◌, ◌++◌, map, length, Some, None, Ok, Err, vec_items, Option, Result, nat_le, slice_index_or, slice_set}
+use Rattle.std.specs.Prelude.{◌≡◌, ℕ, ◌-◌, ◌/◌, ◌<◌, min, Bool, cond, List, [], ◌∷◌, ◌++◌, map, length, Some, None, Ok, Err, vec_items, Option, Result, nat_le, slice_index_or, slice_set}
+use Rattle.std.specs.List.{sum_by}
 use Rattle.std.specs.Option.{option_map}
 use Rattle.model.specs.Values.{Relation, find, same_bytes}
 use Rattle.model.specs.Sorts.{Kind, numbers, texts, Column, Sort}
@@ -19,8 +20,6 @@ use Rattle.sorts.specs.Describing.{table_fault, later_column_fault, dependency_f
 use Rattle.sorts.specs.Described.{described}
 use Rattle.sorts.specs.Sealed as sealing
 use Rattle.std.specs.declared.alloc.AllocError.{AllocError}
-use Rattle.cells.specs.declared.faults.Refusal.{Refusal}
-use Rattle.cells.specs.declared.faults.Refusal.TheVariants as refusal
 use Rattle.outcomes.specs.declared.Outcome.{Outcome}
 use Rattle.outcomes.specs.declared.Outcome.TheVariants as outcome
 use Rattle.session.specs.declared.tables.Table.{Table}
@@ -34,8 +33,7 @@ cell_width numbers = 4
 cell_width texts = 17
 
 abbrev pub row_width : List Column → ℕ
-row_width [] = 0
-row_width (c ∷ C) = cell_width c.kind + row_width C
+row_width C = sum_by (λ c. cell_width c.kind) C
 
 -- The room is the lesser of the one described and what fits.
 abbrev pub room_in : Storage → ℕ → List Column → ℕ
@@ -83,7 +81,7 @@ abbrev pub stored : Table → Kept
 stored t = keeping (letters t.name) (store t.sheet) (relation t.sheet)
 
 abbrev pub drafted : Draft → Drafted
-drafted d = record { name = letters d.name; storage = d.storage; room = d.room; sort = described d.description }
+drafted d = record { name = letters d.table.name; storage = d.storage; room = d.table.room; sort = described d.table.sort }
 
 abbrev pub caller : Session → Caller
 caller s = record { tables = map stored (vec_items s.tables); draft = option_map drafted s.draft }
@@ -211,15 +209,6 @@ abbrev pub Replies : Caller → Reply → Result Outcome AllocError → Caller �
 Replies c r (Ok o) c' = (answer o ≡ r.0) × (c' ≡ r.1)
 Replies c r (Err e) c' = c' ≡ c
 
--- how a refusal is answered
-abbrev pub Heard : Result (Unit {0}) Refusal → Result Outcome AllocError → Type 0
-Heard (Ok u) (Ok o) = o ≡ outcome.Accepted
-Heard (Ok u) (Err e) = ⊥
-Heard (Err (refusal.Fault f)) (Ok o) = o ≡ outcome.Refused f
-Heard (Err (refusal.Fault f)) (Err e) = ⊥
-Heard (Err refusal.Memory) (Ok o) = ⊥
-Heard (Err refusal.Memory) (Err e) = Unit {0}
-
 -- the table of a name among those of the program, and its place
 abbrev pub named : List ℕ → List Table → Option Kept
 named n ts = find (is_named n) (map stored ts)
@@ -230,6 +219,16 @@ Placed ts n (Some i) =
     (i < length ts)
     × ((d : Table) → named n ts ≡ Some (stored (slice_index_or ts i d)))
     × ((d : Table) (R : Relation) → with_rows n R (map stored ts) ≡ slice_set (map stored ts) i (holding (stored (slice_index_or ts i d)) R))
+
+-- the session is idle, or what is answered in place of a call that is then out of turn
+abbrev pub Idle : Caller → Result (Unit {0}) Outcome → Type 0
+Idle c (Ok u) = c.draft ≡ None
+Idle c (Err o) = (r : Reply) → when_idle c r ≡ (answer o, c)
+
+-- the place of the table that a call is on, or what is answered in place of the call
+abbrev pub Reached : Session → List ℕ → Result ℕ Outcome → Type 0
+Reached s n (Ok i) = ((caller s).draft ≡ None) × Placed (vec_items s.tables) n (Some i)
+Reached s n (Err o) = (f : Kept → Reply) → on_table (caller s) n f ≡ (answer o, caller s)
 
 -- What comes of each command. Banks in files are read and written by calls of their own, and commands that are not there
 -- yet are bad lines.

@@ -1,8 +1,8 @@
 //! A session: a caller with tables, of which one at a time may be under description.
 #![tactic(auto)]
 
-mod describing;
 mod rooms;
+mod stops;
 mod tables;
 mod working;
 

@@ -10,7 +10,8 @@ use commands::Storage;
 
 // The bytes that the largest cell of a kind takes.
 fn cell_width(kind: Kind) -> usize
-    ensures { result ≡ cell_width (kind_of kind) }
+    ensures width { result ≡ cell_width (kind_of kind) }
+    ensures most { result ≤ 17 }
 {
     match kind {
         Kind::Num => 4,
@@ -22,11 +23,7 @@ fn row_width(columns: &[Column]) -> usize
     requires { length columns.now ≤ 8 }
     ensures { result ≡ row_width (named_columns columns.now) }
 {
-    let mut width = 0;
-    for column in columns {
-        width += cell_width(column.kind);
-    }
-    width
+    columns.iter().map(|column| cell_width(column.kind)).sum()
 }
 
 // The room of a table that is described with a room and stored so.
@@ -34,18 +31,17 @@ pub(crate) fn room_of(storage: Storage, room: usize, columns: &[Column]) -> usiz
     requires { length columns.now ≤ 8 }
     ensures { result ≡ room_in storage room (named_columns columns.now) }
 {
-    match storage {
-        Storage::Slots(n) => room.min(n as usize),
-        Storage::Image(n) => {
-            let free = (n as usize).saturating_sub(12);
-            match free.checked_div(row_width(columns)) {
-                Some(fitting) => room.min(fitting),
-                None => 0,
-            }
-        }
-    }
+    let fitting = match storage {
+        Storage::Slots(n) => n as usize,
+        Storage::Image(n) => (n as usize)
+            .saturating_sub(12)
+            .checked_div(row_width(columns))
+            .unwrap_or(0),
+    };
+    room.min(fitting)
 }
 
+// No `From`: it would have to stand in the crate of `Storage`, which knows no kinds of tables.
 pub(crate) fn kind_number(storage: Storage) -> u8
     ensures { result ≡ kind_number storage }
 {

@@ -1,8 +1,10 @@
 //! What a caller holds.
+ghost use Rattle.cells.specs.Worded.{letters};
+
 use banks::Sheet;
 use cells::Word;
 use commands::Storage;
-use sorts::Description;
+use sorts::{Named, NewTable};
 
 // A stored table: its name and its rows, with their kind number, sort and room.
 #[derive(Drop)]
@@ -11,13 +13,19 @@ pub struct Table {
     pub(crate) sheet: Sheet,
 }
 
+impl Named for Table {
+    ghost name = { λ t. letters t.name };
+
+    fn is_named(&self, word: &[u8]) -> bool {
+        self.name.is(word)
+    }
+}
+
 // A table under description.
 #[derive(Drop)]
 pub struct Draft {
-    pub(crate) name: Word,
+    pub(crate) table: NewTable,
     pub(crate) storage: Storage,
-    pub(crate) room: usize,
-    pub(crate) description: Description,
 }
 
 // The caller's tables. The session is idle unless there is a draft.

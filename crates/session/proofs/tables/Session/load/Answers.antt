@@ -1,14 +1,25 @@
-use Rattle.std.proofs.Common.{sym}
-use Rattle.model.specs.Banks.{read_bank}
-use Rattle.session.specs.Callers.{caller, loaded}
-use Rattle.session.proofs.Loads.{on_it, load_at}
+use Rattle.std.proofs.Common.{◌≡◌, vec_items, Some, None, Ok, Err, sym, ap, ◌∙◌, arith}
+use Rattle.std.specs.Option.{option_map}
+use Rattle.std.proofs.lemmas.Result.{err_from_is_err_and}
+use Rattle.outcomes.specs.declared.Outcome.TheVariants.{NoFile}
+use Rattle.session.proofs.Loads.{read_none, read_into}
 use Rattle.session.proofs.tables.Session.load.Goals as goal
 
-pub returns-in-Some : goal.returns-in-Some
-returns-in-Some c =
-    let self = c.args.self.now in
-    let n = c.args.name.now in
-    let b = c.args.bytes.now in
-    let x = c.index_mut.result.now in
-    let idle = sym c.if-is_some.ensures in
-    load_at self n c.deref.result.now c.in-Some.i x idle c.deref.ensures.value c.in-Some.ensures c.index_mut.ensures.value b c.read_bank.new.self c.read_bank.result c.accepted.result _ (on_it self n c.deref.result.now c.in-Some.i x idle c.deref.ensures.value c.in-Some.ensures c.index_mut.ensures.value (λ t. loaded (caller self) n (read_bank t.kind t.sort t.room b))) c.read_bank.ensures c.accepted.ensures
+pub returns-in_err-bytes : goal.returns-in_err-bytes
+returns-in_err-bytes c =
+    let p = err_from_is_err_and c.from_residual-in_err-bytes.result c.from_residual-in_err-bytes.ensures.1 in
+    let none : c.args.bytes ≡ None = grind arith in
+    let told : c.in_err-bytes.field-0.0 ≡ NoFile = grind arith in
+    rw (p.1, p.2, told) (read_none c.args.self.now c.args.name.now c.in_ok-i.i c.in_ok-i.ensures.0 c.in_ok-i.ensures.1 (option_map vec_items c.args.bytes) (ap (option_map vec_items) none))
+
+pub returns-in_err-read_bank : goal.returns-in_err-read_bank
+returns-in_err-read_bank c =
+    let p = err_from_is_err_and c.from_residual-in_err-read_bank.result c.from_residual-in_err-read_bank.ensures.1 in
+    let some : c.args.bytes ≡ Some c.in_ok-bytes.bytes = grind arith in
+    rw (p.1, p.2)
+    (read_into c.args.self.now c.args.name.now c.in_ok-i.i c.in_ok-i.ensures.0 c.in_ok-i.ensures.1 c.index_mut.result.now c.index_mut.ensures.value c.deref.result.now (option_map vec_items c.args.bytes) (ap (option_map vec_items) some ∙ ap Some (sym c.deref.ensures.value)) c.read_bank.new.self (Err c.in_err-read_bank.field-0.0) c.in_err-read_bank.ensures)
+
+pub returns : goal.returns
+returns c =
+    let some : c.args.bytes ≡ Some c.in_ok-bytes.bytes = grind arith in
+    read_into c.args.self.now c.args.name.now c.in_ok-i.i c.in_ok-i.ensures.0 c.in_ok-i.ensures.1 c.index_mut.result.now c.index_mut.ensures.value c.deref.result.now (option_map vec_items c.args.bytes) (ap (option_map vec_items) some ∙ ap Some (sym c.deref.ensures.value)) c.read_bank.new.self (Ok c.in_ok-read_bank.field-0) c.in_ok-read_bank.ensures
