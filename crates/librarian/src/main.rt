@@ -11,20 +11,16 @@ use std::io::{Read, Write};
 use std::{env, fs, io};
 
 // A bank has at most 12 bytes before its rows, of which there are at most 128, of 8 texts of 17 bytes.
-const LARGEST_BANK: usize = 17_420;
+const LARGEST_BANK: usize = 12 + 128 * 8 * 17;
 
 // The script: the file that the first argument names, or else the standard input.
 fn script(rt: &HostRuntime) -> io::Result<Vec<u8>> {
-    let mut args = env::args(rt)?;
-    let _program = args.next();
-    match args.next() {
-        Some(path) => fs::read(rt, path.as_str()),
-        None => {
-            let mut bytes = Vec::new(rt.alloc());
-            rt.stdin().read_to_end(&mut bytes)?;
-            Ok(bytes)
-        }
+    if let Some(path) = env::args(rt)?.nth(1) {
+        return fs::read(rt, path.as_str());
     }
+    let mut bytes = Vec::new(rt.alloc());
+    rt.stdin().read_to_end(&mut bytes)?;
+    Ok(bytes)
 }
 
 // What stands behind the next lines.
@@ -33,51 +29,32 @@ fn past_lines(text: &[u8], count: u32) -> &[u8]
 {
     let mut rest = text;
     for _ in 0..count {
-        let (_, after) = split_line(rest);
-        rest = after;
+        rest = split_line(rest).1;
     }
     rest
 }
 
-fn print(rt: &HostRuntime, outcome: Outcome) -> io::Result<()> {
-    match outcome.text(rt.alloc()) {
-        Ok(text) => rt.stdout().write_all(text.as_bytes()),
-        Err(AllocError) => rt.stdout().write_all(b"no memory\n"),
-    }
-}
-
 // The bytes of a file, if it can be read.
 fn read_file(rt: &HostRuntime, path: &[u8]) -> Option<Vec<u8>> {
-    let Ok(path) = std::str::from_utf8(path) else {
-        return None;
-    };
+    let path = std::str::from_utf8(path).ok()?;
     fs::read(rt, path).ok()
 }
 
 // Writes a file whole, or leaves an old one as it was: the bytes go to a file beside it, which then takes its name.
 fn write_file(rt: &HostRuntime, path: &str, bytes: &[u8]) -> io::Result<()> {
-    let heap = rt.alloc();
-    let part = format!(in heap; "{path}.part")?;
-    let written = fs::write(rt, part.as_str(), bytes);
-    match written {
-        Ok(()) => fs::rename(rt, part.as_str(), path),
-        Err(error) => {
-            let _ = fs::remove_file(rt, part.as_str());
-            Err(error)
-        }
+    let part = format!(in rt.alloc(); "{path}.part")?;
+    if let Err(error) = fs::write(rt, part.as_str(), bytes) {
+        let _ = fs::remove_file(rt, part.as_str());
+        return Err(error);
     }
+    fs::rename(rt, part.as_str(), path)
 }
 
-// Writes a bank to a file.
-fn written(rt: &HostRuntime, bank: Outcome, path: &[u8]) -> Outcome {
-    match (bank, std::str::from_utf8(path)) {
-        (Outcome::Bank(bytes), Ok(path)) => match write_file(rt, path, bytes.as_slice()) {
-            Ok(()) => Outcome::Wrote(bytes.len()),
-            Err(_) => Outcome::NoFile,
-        },
-        (Outcome::Bank(_), Err(_)) => Outcome::NoFile,
-        (other, _) => other,
-    }
+// Writes a bank to a file, and answers its length.
+fn written(rt: &HostRuntime, bank: &[u8], path: &[u8]) -> Option<usize> {
+    let path = std::str::from_utf8(path).ok()?;
+    write_file(rt, path, bank).ok()?;
+    Some(bank.len())
 }
 
 fn perform(
@@ -88,10 +65,12 @@ fn perform(
     let heap = rt.alloc();
     match command {
         Command::Read { name, path } => session.read(heap, name, read_file(rt, path)),
-        Command::Write { name, path } => {
-            let bank = session.bank(heap, name, LARGEST_BANK)?;
-            Ok(written(rt, bank, path))
-        }
+        Command::Write { name, path } => match session.bank(heap, name, LARGEST_BANK)? {
+            Outcome::Bank(bank) => {
+                Ok(written(rt, &bank, path).map_or(Outcome::NoFile, Outcome::Wrote))
+            }
+            other => Ok(other),
+        },
         other => session.perform(heap, other),
     }
 }
@@ -105,28 +84,21 @@ fn step<'a>(
 ) -> io::Result<&'a [u8]>
     ensures { IfOk result (λ rest. length rest.now ≤ length behind.now) }
 {
-    match parse(rt.alloc(), line) {
-        Ok(Line::Skipped) => Ok(behind),
-        Ok(Line::Bad) => {
-            print(rt, Outcome::BadLine)?;
-            Ok(behind)
-        }
+    let (outcome, rest) = match parse(rt.alloc(), line) {
+        Ok(Line::Skipped) => return Ok(behind),
+        Ok(Line::Bad) => (Outcome::BadLine, behind),
         Ok(Line::Said(command)) => {
             let rest = match &command {
                 Command::Try { count } | Command::Put { count } => past_lines(behind, *count),
                 _ => behind,
             };
-            match perform(rt, session, command) {
-                Ok(outcome) => print(rt, outcome)?,
-                Err(AllocError) => print(rt, Outcome::NoMemory)?,
-            }
-            Ok(rest)
+            let outcome = perform(rt, session, command).unwrap_or(Outcome::NoMemory);
+            (outcome, rest)
         }
-        Err(AllocError) => {
-            print(rt, Outcome::NoMemory)?;
-            Ok(behind)
-        }
-    }
+        Err(AllocError) => (Outcome::NoMemory, behind),
+    };
+    print!(rt; "{outcome}")?;
+    Ok(rest)
 }
 
 fn run(rt: &HostRuntime, script: &[u8]) -> io::Result<()> {
@@ -141,7 +113,7 @@ fn run(rt: &HostRuntime, script: &[u8]) -> io::Result<()> {
 
 fn main(rt: HostRuntime) -> io::Result<()> {
     match script(&rt) {
-        Ok(bytes) => run(&rt, bytes.as_slice()),
+        Ok(bytes) => run(&rt, &bytes),
         Err(error) => {
             eprintln!(rt; "librarian: the script cannot be read: {error}")?;
             Err(error)
