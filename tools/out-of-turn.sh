@@ -18,6 +18,7 @@ mkdir -p "$turn/src"
 crates=
 reach() {
     local used
+    grep -q "^$1:" crates.txt || return 0 # one of the kit's
     for used in $(sed -n "s/^$1://p" crates.txt); do reach "$used"; done
     case " $crates " in *" $1 "*) ;; *) crates="$crates $1" ;; esac
 }
@@ -93,8 +94,8 @@ refused 'a description that was sealed' 'borrow-e0382]: borrow of moved value: `
 refused 'a description sealed twice' 'borrow-e0382]: use of moved value: `table`' \
     'let _sort = table.seal();' 'let _other = table.seal();'
 refused 'a sort that was never described' 'private-field]' \
-    'let _sort = Sort { columns: Vec::new(heap), deps: Vec::new(heap), parts: Vec::new(heap) };'
+    'let _sort = Sort { description: Description::new(heap) };'
 refused 'a column pushed into a sort' 'private-field]' \
-    'let mut sort = table.seal();' 'sort.columns.clear();'
+    'let mut sort = table.seal();' 'sort.description.columns.clear();'
 
 echo "out of turn: $tried programs refused, each for its reason"
