@@ -4,7 +4,7 @@ ghost use Rattle.commands.specs.declared.unread.Unread.TheVariants.{Memory};
 
 use std::alloc::{AllocError, AllocFailed};
 
-// A text is malformed, or memory ran out before it was read.
+// A text is malformed, or memory ran out before it was read. An enum of its own: a malformed line has no fault to tell.
 #[derive(Clone, Copy, PartialEq, Eq, Debug)]
 pub enum Unread {
     Malformed,

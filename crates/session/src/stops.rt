@@ -7,7 +7,7 @@ use cells::Refusal;
 use outcomes::Outcome;
 use std::alloc::AllocError;
 
-// Another answer is due, or memory is wanting.
+// Another answer is due, or memory is wanting. An enum of its own, since what turns into it says what a call answers.
 #[derive(Drop)]
 pub enum Stop {
     Answer(Outcome),

@@ -20,7 +20,7 @@ use outcomes::Outcome;
 use sorts::{Named, NewColumn, NewTable};
 use std::alloc::{AllocError, Global};
 
-// The place of the first table with that name.
+// The place of the first table with that name: one expression, as the place of a column is one over columns.
 fn place_of(tables: &[Table], name: &[u8]) -> Option<usize>
     ensures { result ≡ position (λ t. is_named name.now (stored t)) tables.now }
 {
