@@ -7,7 +7,7 @@ use crate::unread::Unread;
 use std::alloc::Global;
 
 // What a function gives for each item, where it gives something for each.
-pub fn each<T, U: Drop, F: Fn(&T) -> Option<U>>(
+pub(crate) fn each<T, U: Drop, F: Fn(&T) -> Option<U>>(
     heap: Global,
     items: &[T],
     give: F,
