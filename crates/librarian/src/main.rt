@@ -34,6 +34,14 @@ fn past_lines(text: &[u8], count: u32) -> &[u8]
     rest
 }
 
+// Prints an outcome in one piece, or tells that its text found no room.
+fn print(rt: &HostRuntime, outcome: &Outcome) -> io::Result<()> {
+    match outcome.text(rt.alloc()) {
+        Ok(text) => rt.stdout().write_all(text.as_bytes()),
+        Err(AllocError) => rt.stdout().write_all(b"no memory\n"),
+    }
+}
+
 // The bytes of a file, if it can be read.
 fn read_file(rt: &HostRuntime, path: &[u8]) -> Option<Vec<u8>> {
     let path = std::str::from_utf8(path).ok()?;
@@ -97,7 +105,7 @@ fn step<'a>(
         }
         Err(AllocError) => (Outcome::NoMemory, behind),
     };
-    print!(rt; "{outcome}")?;
+    print(rt, &outcome)?;
     Ok(rest)
 }
 

@@ -1,11 +1,12 @@
 //! What comes of a command, and how it is printed.
 #![tactic(auto)]
 
-ghost use Rattle.std.specs.Prelude.{Some};
+ghost use Rattle.std.specs.Prelude.{◌≡◌, ◌<◌, ◌++◌, IfOk, OnOk, Some, string_bytes};
 ghost use Rattle.cells.specs.Held.{tuples};
-ghost use Rattle.outcomes.specs.Printed.{hex_text, rows_text, text_of};
+ghost use Rattle.outcomes.specs.Printed.{bank_text, hex_digit, hex_pair, hex_text, rows_text, text_of};
 
 use cells::{Fault, Row};
+use std::alloc::{AllocError, Global};
 use std::fmt;
 
 #[derive(Drop)]
@@ -105,3 +106,51 @@ impl fmt::Display for Lines<'_> {
         Ok(())
     }
 }
+
+impl Outcome {
+    // What is printed of the outcome, as a text. The bytes of a bank are pushed digit by digit, since by `Display` they
+    // take three times as long.
+    pub fn text(&self, heap: Global) -> Result<String, AllocError>
+        ensures { IfOk result (λ s. string_bytes s ≡ text_of self.now) }
+    {
+        match self {
+            Outcome::Bank(bytes) => bank_text(heap, bytes.as_slice()),
+            other => format!(in heap; "{other}"),
+        }
+    }
+}
+
+fn bank_text(heap: Global, bytes: &[u8]) -> Result<String, AllocError>
+    ensures { IfOk result (λ s. string_bytes s ≡ bank_text bytes.now) }
+{
+    let mut text = format!(in heap; "bank {}", bytes.len())?;
+    for &b in bytes {
+        push_pair(&mut text, b)?;
+    }
+    text.push_str("\n")?;
+    Ok(text)
+}
+
+// Writes a byte as a space and two hexadecimal digits.
+fn push_pair(out: &mut String, b: u8) -> Result<(), AllocError>
+    ensures { OnOk result (string_bytes out.new ≡ string_bytes out.old ++ hex_pair b) }
+{
+    out.push_str(" ")?;
+    out.push(hex_digit(b / 16))?;
+    out.push(hex_digit(b % 16))?;
+    Ok(())
+}
+
+fn hex_digit(n: u8) -> char
+    requires { n < 16 }
+    ensures { result ≡ hex_digit n }
+{
+    if n < 10 {
+        char::from(b'0' + n)
+    } else {
+        char::from(b'A' + (n - 10))
+    }
+}
+
+#[cfg(test)]
+mod tests;
