@@ -1,30 +1,15 @@
 -- A number by its digits.
-use Rattle.std.proofs.Common.{◌≡◌, ℕ, ◌+◌, ◌-◌, ◌*◌, ◌<◌, ◌≤◌, Bool, true, false, leb, min, List, [], ◌∷◌, Option, sym, refl, subst, arith}
+use Rattle.std.proofs.Common.{◌≡◌, ℕ, ◌+◌, ◌-◌, ◌*◌, ◌<◌, ◌≤◌, Bool, true, false, leb, cond, List, [], ◌∷◌, Option, sym, refl, ap, subst, arith}
 use Rattle.std.specs.Bool.{then_some}
 use Rattle.std.specs.List.{fold}
 use Rattle.std.proofs.lemmas.Bool.{le-leb, lt-leb, leb-true, leb-false}
 use Rattle.grammar.specs.Signs.{decimal, decimal_after}
-use Rattle.reader.specs.Judging.{Counted}
-
--- one more digit, up to the largest number of 32 bits
-abbrev pub one_digit : ℕ → ℕ → ℕ
-one_digit n d = min (min (n * 10) 4294967295 + (d - 0x30)) 4294967295
+use Rattle.reader.specs.Judging.{Counted, one_digit}
 
 -- n is m where m is not above the greatest number of a cell, and else n is above it too
 record Reaches (n m : ℕ) : Type 0 where
   exact : m ≤ 268435455 → n ≡ m
   above : 268435455 < m → 268435455 < n
-
-more : (n m d : ℕ) → Reaches n m → Reaches (one_digit n d) (m * 10 + (d - 0x30))
-more n m d h = record { exact = λ l. omega (arith, h.exact (omega arith)); above = by (leb m 268435455) refl }
-  where
-    by : (t : Bool) → leb m 268435455 ≡ t → 268435455 < m * 10 + (d - 0x30) → 268435455 < one_digit n d
-    by true e l = omega (arith, h.exact (leb-true m 268435455 e))
-    by false e l = omega (arith, h.above (leb-false m 268435455 e))
-
-reaches : (b : List ℕ) (n m : ℕ) → Reaches n m → Reaches (fold one_digit n b) (decimal_after m b)
-reaches [] n m h = h
-reaches (d ∷ b) n m h = reaches b (one_digit n d) (m * 10 + (d - 0x30)) (more n m d h)
 
 within : {n m : ℕ} → Reaches n m → n ≤ 268435455 → m ≤ 268435455
 within {n} {m} h l = by (leb m 268435455) refl
@@ -32,6 +17,22 @@ within {n} {m} h l = by (leb m 268435455) refl
     by : (t : Bool) → leb m 268435455 ≡ t → m ≤ 268435455
     by true e = leb-true m 268435455 e
     by false e = let high = leb-false m 268435455 e in absurd (omega (arith, high, h.above high))
+
+more : (n m d : ℕ) → Reaches n m → Reaches (one_digit n d) (m * 10 + (d - 0x30))
+more n m d h = by (leb n 268435455) refl
+  where
+    by : (t : Bool) → leb n 268435455 ≡ t → Reaches (cond t (n * 10 + (d - 0x30)) n) (m * 10 + (d - 0x30))
+    by true e =
+        let low = leb-true n 268435455 e in
+        let same : n ≡ m = h.exact (within h low) in
+        record { exact = λ l. ap (λ k. k * 10 + (d - 0x30)) same; above = λ l. omega (arith, same) }
+    by false e =
+        let high = leb-false n 268435455 e in
+        record { exact = λ l. absurd (omega (arith, high, l, h.exact (omega (arith, l)))); above = λ l. high }
+
+reaches : (b : List ℕ) (n m : ℕ) → Reaches n m → Reaches (fold one_digit n b) (decimal_after m b)
+reaches [] n m h = h
+reaches (d ∷ b) n m h = reaches b (one_digit n d) (m * 10 + (d - 0x30)) (more n m d h)
 
 beyond : {n m : ℕ} → Reaches n m → 268435455 < n → 268435455 < m
 beyond {n} {m} h l = by (leb m 268435455) refl

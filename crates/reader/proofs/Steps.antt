@@ -3,6 +3,7 @@ use Rattle.std.proofs.Common.{◌≡◌, ℕ, Bool, false, List, [], ◌∷◌, 
 use Rattle.std.proofs.lemmas.List.{append_assoc, append-nil, map_push}
 use Rattle.std.proofs.lemmas.Bool.{cond-true, cond-false}
 use Rattle.cells.specs.Numbered.{told}
+use Rattle.cells.specs.declared.faults.Fault as program_fault
 use Rattle.cells.specs.declared.faults.Refusal.{Refusal}
 use Rattle.cells.specs.declared.faults.Refusal.TheVariants.{Fault, Memory}
 use Rattle.grammar.specs.Signs.{Sign, Token, AS, DEFAULT, DROP, JOIN, RENAME, SELECT}
@@ -16,7 +17,7 @@ use Rattle.phrases.specs.declared.steps.Step as program
 use Rattle.phrases.specs.declared.steps.Placed as program_placed
 use Rattle.signs.specs.Reached.{signs_at, Lacking, Found}
 use Rattle.reader.specs.Judging.{Judged}
-use Rattle.reader.specs.Saying.{from, Awaits, Next, Said, postfix, on_test}
+use Rattle.reader.specs.Saying.{from, Awaits, Next, Said, postfix, Stops, on_test}
 use Rattle.reader.specs.Stepping.{step_items, all_items, Stepped, Adds, AddsBefore, Built, Further, on_table}
 use Rattle.reader.proofs.Running.{following_all, complete_run, found_goes}
 use Rattle.reader.proofs.Phrasing.{closing_awaits, steps_postfix}
@@ -108,7 +109,7 @@ found_moved {y = y} f m a p z e i h = subst (λ n. Found f y.now n p z) i (subst
 lacking_found : (f g : Sign → Bool) (b : List ℕ) (a p z : ℕ) (F : Found f b a p z) → Lacking g (signs_at b a) → g F.sign ≡ false
 lacking_found f g b a p z F h = subst (λ l. Lacking g l) F.first h
 
-join_found : (b : List ℕ) (a p z d : ℕ) → Found (is_key JOIN) b a p z → (K : List Want) → from b a (more_steps d ∷ K) ≡ from b z (a_source d ∷ complete (a_step (placed p join)) ∷ more_steps d ∷ K)
+pub join_found : (b : List ℕ) (a p z d : ℕ) → Found (is_key JOIN) b a p z → (K : List Want) → from b a (more_steps d ∷ K) ≡ from b z (a_source d ∷ complete (a_step (placed p join)) ∷ more_steps d ∷ K)
 join_found b a p z d F K = found_goes (is_key JOIN) b a p z (more_steps d ∷ K) _ F (cond-true (is_key JOIN F.sign) _ _ F.is)
 
 pub select_found : (b : List ℕ) (a p z d : ℕ) → Lacking (is_key JOIN) (signs_at b a) → Found (is_key SELECT) b a p z → (K : List Want) → from b a (more_steps d ∷ K) ≡ from b z (a_condition d (complete (a_select p) ∷ more_steps d ∷ K))
@@ -197,3 +198,19 @@ source_deep v b S T a p m z d Memory same F h = tt
 -- one step pushed
 pub pushed_placed : (v w : List program_placed.Placed) (x : program_placed.Placed) → w ≡ v ++ (x ∷ []) → written.all_placed w ≡ written.all_placed v ++ (written.placed x ∷ [])
 pushed_placed v w x e = ap written.all_placed e ∙ map_push written.placed v x
+
+-- what is said of another beginning
+pub built_from : (start begin : List Want → Read) (b : List ℕ) (S T : List Placed) (r : Result (Unit {0}) Refusal) (z : ℕ) → ((K : List Want) → start K ≡ begin K) → Built begin b S T r z → Built start b S T r z
+built_from start begin b S T (Ok u) z e h = record { new = h.new; all = h.all; goes = λ K. e K ∙ h.goes K }
+built_from start begin b S T (Err (Fault f)) z e h = record { new = h.new; all = h.all; items = h.items; quiet = h.quiet; stops = λ K. e K ∙ h.stops K }
+built_from start begin b S T (Err Memory) z e h = tt
+
+-- reading stops with a fault before any step
+pub built_stops : (start : List Want → Read) (b : List ℕ) (S T : List Placed) (e : Refusal) (z : ℕ) → T ≡ S → ((f : program_fault.Fault) → e ≡ Fault f → Stops start (told f)) → Built start b S T (Err e) z
+built_stops start b S T (Fault f) z same h =
+    let s = h f refl in
+    record { new = []; all = same ∙ sym (append-nil S); items = s.items; quiet = s.quiet; stops = s.stops }
+built_stops start b S T Memory z same h = tt
+
+pub same_placed : {v w : List program_placed.Placed} → v ≡ w → written.all_placed v ≡ written.all_placed w
+same_placed e = ap written.all_placed e

@@ -1,19 +1,20 @@
 -- Whole texts.
-use Rattle.std.proofs.Common.{◌≡◌, ℕ, ◌≤◌, leb, List, [], ◌∷◌, ◌++◌, length, None, Ok, Err, Result, refl, ap, ◌∙◌, subst}
+use Rattle.std.proofs.Common.{◌≡◌, ℕ, ◌≤◌, leb, List, [], ◌∷◌, ◌++◌, length, None, Ok, Err, Option, Result, sym, refl, ap, ◌∙◌, subst}
 use Rattle.std.proofs.lemmas.List.{append_assoc, append-nil}
 use Rattle.std.proofs.lemmas.Bool.{cond-true, le-leb}
+use Rattle.model.specs.Faults as model
 use Rattle.cells.specs.declared.faults.Refusal.{Refusal}
 use Rattle.cells.specs.declared.faults.Refusal.TheVariants.{Fault, Memory}
 use Rattle.grammar.specs.Phrases as grammar
 use Rattle.grammar.specs.Phrases.{Placed, compared, negated, bracket, both, either}
-use Rattle.grammar.specs.Reading.{Item, a_not, a_bracket, an_and, an_or, a_condition, a_definition, Read, following, read_condition, read_definition, condition_fault, condition_trees, trees, steps}
+use Rattle.grammar.specs.Reading.{Item, a_not, a_bracket, an_and, an_or, a_condition, a_definition, Read, following, read_condition, read_definition, condition_fault, condition_trees, definition_steps, definition_fault, trees, steps}
 use Rattle.phrases.specs.Written.{ByWord, phrase}
 use Rattle.conditions.specs.declared.trees.Formula.{Formula}
 use Rattle.reader.specs.Saying.{from, postfix, Said, Ends}
-use Rattle.reader.specs.Stepping.{all_items, Adds, Built, Whole}
+use Rattle.reader.specs.Stepping.{all_items, Adds, Built, Gives, Whole}
 use Rattle.reader.proofs.Steps.{steps_all}
 
-trees_postfix : (k : grammar.Phrase) (l : List Item) (S : List grammar.Phrase) → trees (postfix k ++ l) S ≡ trees l (k ∷ S)
+pub trees_postfix : (k : grammar.Phrase) (l : List Item) (S : List grammar.Phrase) → trees (postfix k ++ l) S ≡ trees l (k ∷ S)
 trees_postfix (compared w c t) l S = refl
 trees_postfix (negated k) l S = ap (λ m. trees m S) (append_assoc (postfix k) (a_not ∷ []) l) ∙ trees_postfix k (a_not ∷ l) S
 trees_postfix (bracket k) l S = ap (λ m. trees m S) (append_assoc (postfix k) (a_bracket ∷ []) l) ∙ trees_postfix k (a_bracket ∷ l) S
@@ -25,10 +26,10 @@ trees_postfix (either k m) l S =
     ∙ (trees_postfix k (postfix m ++ (an_or ∷ l)) S ∙ trees_postfix m (an_or ∷ l) (k ∷ S))
 
 -- a text that is not too long is read from its first sign
-short_condition : (b : List ℕ) → length b ≤ 256 → read_condition b ≡ from b 0 (a_condition 8 [])
+pub short_condition : (b : List ℕ) → length b ≤ 256 → read_condition b ≡ from b 0 (a_condition 8 [])
 short_condition b h = cond-true (leb (length b) 256) _ _ (le-leb (length b) 256 h)
 
-short_definition : (b : List ℕ) → length b ≤ 256 → read_definition b ≡ from b 0 (a_definition 8 [])
+pub short_definition : (b : List ℕ) → length b ≤ 256 → read_definition b ≡ from b 0 (a_definition 8 [])
 short_definition b h = cond-true (leb (length b) 256) _ _ (le-leb (length b) 256 h)
 
 -- the parser begins at the beginning
@@ -66,3 +67,9 @@ definition_stops b S T z (Fault f) l h =
       fault = ap (λ (r : Read). r.fault) e;
     }
 definition_stops b S T z Memory l h = tt
+
+-- what a whole definition gives, from the first sign and no step
+pub given_steps : (b c : List ℕ) (a : ℕ) (T : List Placed) (f : Option model.Fault) → c ≡ b → a ≡ 0 → length b ≤ 256 → Gives (from c a (a_definition 8 [])) [] T f → (T ≡ definition_steps b) × (f ≡ definition_fault b)
+given_steps b c a T f e i l h =
+    let r = short_definition b l ∙ (ap (λ n. from b n (a_definition 8 [])) (sym i) ∙ ap (λ x. from x a (a_definition 8 [])) (sym e)) in
+    (h.all ∙ (sym h.steps ∙ ap (λ (x : Read). steps x.items []) (sym r)), sym h.fault ∙ ap (λ (x : Read). x.fault) (sym r))

@@ -1,5 +1,5 @@
 -- How single signs are judged.
-use Rattle.std.specs.Prelude.{◌≡◌, ℕ, true, false, List, [], length, Some, None, Ok, Err, Option, Result, nat_le}
+use Rattle.std.specs.Prelude.{◌≡◌, ℕ, ◌+◌, ◌-◌, ◌*◌, cond, true, false, List, [], length, Some, None, Ok, Err, Option, Result, nat_le}
 use Rattle.std.specs.Borrow.{Bor}
 use Rattle.model.specs.Faults.{Fault}
 use Rattle.cells.specs.Numbered.{told}
@@ -21,6 +21,10 @@ spelt w = w.now
 -- the fault of a text that ends where a sign is wanted
 abbrev pub ended : List ℕ → Fault
 ended b = record { number = 1; kind = 0; place = length b }
+
+-- one more digit, unless the number is above the greatest
+abbrev pub one_digit : ℕ → ℕ → ℕ
+one_digit n d = cond (nat_le n greatest) (n * 10 + (d - 0x30)) n
 
 -- the number that digits write, where it is not above the greatest
 abbrev pub Counted : List ℕ → Option ℕ → Type 0

@@ -4,7 +4,7 @@ ghost use Rattle.conditions.specs.Meaning.{sign_of};
 ghost use Rattle.grammar.specs.Reading.{deeper, on_cell, on_comparing, on_operand, on_word};
 ghost use Rattle.phrases.specs.Written.{constant, term};
 ghost use Rattle.signs.specs.Spoken.{said};
-ghost use Rattle.reader.specs.Judging.{Counted, Judged, spelt};
+ghost use Rattle.reader.specs.Judging.{Counted, Judged, one_digit, spelt};
 ghost use Rattle.reader.specs.Stepping.{on_table, table};
 
 use cells::{Cause, GREATEST, Refusal, is_text, refused};
@@ -45,14 +45,22 @@ pub(crate) fn comparing(token: Token<'_>) -> Result<Comparison, Refusal>
     }
 }
 
+// One more digit, unless the number is above the greatest.
+fn one_digit(n: u32, d: u8) -> u32
+    ensures { result ≡ one_digit n d }
+{
+    if n <= GREATEST {
+        n * 10 + u32::from(d.saturating_sub(b'0'))
+    } else {
+        n
+    }
+}
+
 // The number that the digits write, unless it is above the greatest. No `parse`, which would ask that they are digits.
 fn number(digits: &[u8]) -> Option<u32>
     ensures { Counted digits.now result }
 {
-    let n = digits.iter().fold(0u32, |n, d| {
-        n.saturating_mul(10)
-            .saturating_add(u32::from(d.saturating_sub(b'0')))
-    });
+    let n = digits.iter().fold(0u32, |n, d| one_digit(n, *d));
     (n <= GREATEST).then_some(n)
 }
 

@@ -1,6 +1,7 @@
 use Rattle.std.proofs.Common.{◌≡◌, rules}
 use Rattle.std.specs.List.{fold}
-use Rattle.reader.proofs.Numbers.{one_digit, counted}
+use Rattle.reader.specs.Judging.{one_digit}
+use Rattle.reader.proofs.Numbers.{counted}
 use Rattle.reader.proofs.terminals.number.Goals as goal
 
 pub returns : goal.returns
