@@ -3,3 +3,4 @@ pub mod Sames
 pub mod Ordered
 pub mod Texts
 pub mod Prints
+pub mod Kinded

@@ -1,5 +1,6 @@
 //! Faults, and the refusals that carry them.
-ghost use Rattle.std.specs.Prelude.{◌≡◌, Decides};
+ghost use Rattle.std.specs.Prelude.{◌≡◌, Decides, nat_eq};
+ghost use Rattle.std.specs.Ordering.{on};
 ghost use Rattle.cells.specs.Held.{kind_of};
 ghost use Rattle.cells.specs.declared.kinds.Kind.{Kind};
 ghost use Rattle.cells.specs.Numbered.{number};
@@ -72,9 +73,10 @@ impl Cause {
     }
 }
 
-// Two causes are equal exactly when they are one, and two kinds when they stand for one.
+// Two causes are equal exactly when they are one, or have one number, and two kinds when they stand for one.
 pub fn equality_stands()
     ensures causes { (a b : Cause) → Decides (⟦<Cause as PartialEq>⟧.eq a b) (a ≡ b) }
+    ensures numbers { (a b : Cause) → ⟦<Cause as PartialEq>⟧.eq a b ≡ on number nat_eq a b }
     ensures kinds { (a b : Kind) → Decides (⟦<Kind as PartialEq>⟧.eq a b) (kind_of a ≡ kind_of b) }
 {}
 

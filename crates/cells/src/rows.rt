@@ -44,6 +44,7 @@ pub fn clones_stand()
     ensures rows { (a b : Row) → ⟦<Row as Clone>⟧.is_clone a b → tuple b ≡ tuple a }
 {}
 
+#[tactic(auto, using(crate::proofs::Copies::clone_tuples))]
 pub fn copied_rows(heap: Global, rows: &[Row]) -> Result<Vec<Row>, AllocError>
     ensures { IfOk result (λ v. tuples v.items ≡ tuples rows.now) }
 {
