@@ -10,7 +10,7 @@ use Rattle.columns.specs.declared.column.Column.{Column}
 use Rattle.columns.specs.Named.{named_columns}
 
 -- a place i further on
-abbrev further : ℕ → Option ℕ → Option ℕ
+abbrev pub further : ℕ → Option ℕ → Option ℕ
 further i None = None
 further i (Some k) = Some (i + k)
 
@@ -18,7 +18,7 @@ further_suc : (i : ℕ) (r : Option ℕ) → further i (option_map suc r) ≡ fu
 further_suc i None = refl
 further_suc i (Some k) = ap Some (let e : i + suc k ≡ i + 1 + k = omega arith in e)
 
-further_zero : (r : Option ℕ) → further 0 r ≡ r
+pub further_zero : (r : Option ℕ) → further 0 r ≡ r
 further_zero None = refl
 further_zero (Some k) = ap Some (let e : 0 + k ≡ k = omega arith in e)
 

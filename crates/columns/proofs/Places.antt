@@ -11,12 +11,12 @@ use Rattle.std.proofs.Math.Bool.{and-false}
 use Rattle.std.proofs.lemmas.Bool.{cases_lt}
 use Rattle.model.specs.ColumnSets.{has, within, same, apart, non_empty, union}
 
-has_get_or : (X : List Bool) (i : ℕ) → get_or X i false ≡ has X i
+pub has_get_or : (X : List Bool) (i : ℕ) → get_or X i false ≡ has X i
 has_get_or [] i = refl
 has_get_or (b ∷ X) zero = refl
 has_get_or (b ∷ X) (suc i) = has_get_or X i
 
-has_past : (X : List Bool) (i : ℕ) → length X ≤ i → has X i ≡ false
+pub has_past : (X : List Bool) (i : ℕ) → length X ≤ i → has X i ≡ false
 has_past [] i h = refl
 has_past (b ∷ X) zero h = let z : ⊥ = omega arith in absurd z
 has_past (b ∷ X) (suc i) h = has_past X i (omega arith)

@@ -23,11 +23,11 @@ turns_more : (k : ℕ) (D : List sorts.Dependency) (Z : sets.ColumnSet) → turn
 turns_more zero D Z = refl
 turns_more (suc k) D Z = turns_more k D (grow D Z)
 
-not_or : (a b : Bool) → not (a || b) ≡ (not a && not b)
+pub not_or : (a b : Bool) → not (a || b) ≡ (not a && not b)
 not_or true b = refl
 not_or false b = refl
 
-pub turns_push : (ys : List Dependency) (x : Dependency) (D : List sorts.Dependency) (Z W V : sets.ColumnSet) → W ≡ turns (length ys) D Z → V ≡ grow D W → V ≡ turns (length (ys ++ x ∷ [])) D Z
+pub turns_push : {A : Type 0} (ys : List A) (x : A) (D : List sorts.Dependency) (Z W V : sets.ColumnSet) → W ≡ turns (length ys) D Z → V ≡ grow D W → V ≡ turns (length (ys ++ x ∷ [])) D Z
 turns_push ys x D Z W V w v = v ∙ ap (grow D) w ∙ sym (turns_more (length ys) D Z) ∙ ap (λ k. turns k D Z) (sym (add-one (length ys)) ∙ sym (length_push ys x))
 
 -- what the chains over the dependencies answer
@@ -63,13 +63,13 @@ all_arranged xs = all_from (λ l. arranged (dependencies l)) (leads_rest xs) xs
 after_led : (D : List sorts.Dependency) (d e : sorts.Dependency) (l m : List sorts.Dependency) → leads_off D d ≡ false → lead_first D l ≡ e ∷ m → lead_first D (d ∷ l) ≡ e ∷ d ∷ m
 after_led D d e l m f q = ap (λ b. cond b (d ∷ l) (after_first d (lead_first D l))) f ∙ ap (after_first d) q
 
-led_at : (D : List sorts.Dependency) (l : List Dependency) (i : ℕ) → i < length l → ((k : ℕ) (y : Dependency) → k < i → leads_off D (dependency (get_or l k y)) ≡ false) →
+pub led_at : (D : List sorts.Dependency) (l : List Dependency) (i : ℕ) → i < length l → ((k : ℕ) (y : Dependency) → k < i → leads_off D (dependency (get_or l k y)) ≡ false) →
     ((y : Dependency) → leads_off D (dependency (get_or l i y)) ≡ true) → (d : Dependency) → lead_first D (dependencies l) ≡ dependency (get_or l i d) ∷ dependencies (remove l i)
 led_at D [] i h f t d = absurd (let z : ⊥ = omega arith in z)
 led_at D (x ∷ l) zero h f t d = ap (λ b. cond b (dependency x ∷ dependencies l) (after_first (dependency x) (lead_first D (dependencies l)))) (t d)
 led_at D (x ∷ l) (suc i) h f t d = after_led D (dependency x) (dependency (get_or l i d)) (dependencies l) (dependencies (remove l i)) (f 0 d (omega arith)) (led_at D l i (omega arith) (λ k y g. f (suc k) y (omega arith)) t d)
 
-led_last : (D : List sorts.Dependency) (l : List Dependency) (i : ℕ) → suc i ≡ length l → ((k : ℕ) (y : Dependency) → k < suc i → leads_off D (dependency (get_or l k y)) ≡ false) →
+pub led_last : (D : List sorts.Dependency) (l : List Dependency) (i : ℕ) → suc i ≡ length l → ((k : ℕ) (y : Dependency) → k < suc i → leads_off D (dependency (get_or l k y)) ≡ false) →
     (d : Dependency) → lead_first D (dependencies l) ≡ dependency (get_or l i d) ∷ dependencies (remove l i)
 led_last D [] i h f d = absurd (let z : ⊥ = omega arith in z)
 led_last D (x ∷ []) zero h f d = ap (λ b. cond b (dependency x ∷ []) (dependency x ∷ [])) (f 0 d (omega arith))
@@ -87,7 +87,7 @@ leader_at D l None h f d = led_last D l (length l - 1) (omega arith) (λ k y g. 
 leader_at D l (Some i) h f d = led_at D l i f.0 (λ k y g. f.2 k y (omega arith) g) f.1 d
 
 -- one dependency more in order
-arrange_next : (k : ℕ) (D R : List sorts.Dependency) (d : sorts.Dependency) → lead_first D D ≡ d ∷ R → arrange (suc k) D ≡ d ∷ arrange k R
+pub arrange_next : (k : ℕ) (D R : List sorts.Dependency) (d : sorts.Dependency) → lead_first D D ≡ d ∷ R → arrange (suc k) D ≡ d ∷ arrange k R
 arrange_next k D R d e = ap (λ l. front l ++ arrange k (tail l)) e
 
 pub arrange_more : (ordered ordered' rest rest' : List Dependency) (x : Dependency) (i n n' : ℕ) (E : List sorts.Dependency) → Leader rest i → x ≡ get_or rest i x →

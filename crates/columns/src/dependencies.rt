@@ -2,7 +2,7 @@
 ghost use Rattle.std.specs.Prelude.{◌≡◌, ◌<◌, not, ◌&&◌, if◌then◌else◌, length, IfOk};
 ghost use Rattle.model.specs.Values.{any, every};
 ghost use Rattle.model.specs.ColumnSets.{same, union, within};
-ghost use Rattle.model.specs.Closures.{grow, closure};
+ghost use Rattle.model.specs.Closures.{grow, turns, closure};
 ghost use Rattle.model.specs.TreeForm.{sets, leads_off, in_order, right_once, arranged, tree_form};
 ghost use Rattle.columns.specs.Members.{members, dependency, dependencies, near, Leader};
 
@@ -43,12 +43,19 @@ fn grow(deps: &[Dependency], set: ColumnSet) -> ColumnSet
     deps.iter().rev().fold(set, |all, d| d.applied_to(all))
 }
 
+// The set after so many turns.
+fn after_turns(deps: &[Dependency], count: usize, set: ColumnSet) -> ColumnSet
+    ensures { members result ≡ turns count (dependencies deps.now) (members set) }
+{
+    (0..count).fold(set, |all, _| grow(deps, all))
+}
+
 // The least set that holds the given one and, with a whole left set, also its right set. As many turns as there are
 // dependencies reach it.
 pub fn closure(deps: &[Dependency], set: ColumnSet) -> ColumnSet
     ensures { members result ≡ closure (dependencies deps.now) (members set) }
 {
-    deps.iter().fold(set, |all, _| grow(deps, all))
+    after_turns(deps, deps.len(), set)
 }
 
 // Whether some dependency has x for its right set.
