@@ -17,7 +17,7 @@ pub command_malformed : (l : List ℕ) (v : Verb) → verb_of (command_word l) �
 command_malformed l v e f =
     ap (λ o. and_then o (λ u. and_then (words_of (arguments_of l)) (λ us. says u us))) e ∙ ap (λ o. and_then o (λ us. says v us)) f
 
-none_is : (ws : List (Bor Word)) → length ws ≡ 0 → texts ws ≡ []
+pub none_is : (ws : List (Bor Word)) → length ws ≡ 0 → texts ws ≡ []
 none_is [] e = refl
 none_is (w ∷ ws) e = absurd (omega arith)
 

@@ -2,6 +2,7 @@
 ghost use Rattle.std.specs.Prelude.{◌≡◌, ◌-◌, ◌≤◌, false, [], map, length};
 ghost use Rattle.std.specs.Option.{option_map};
 ghost use Rattle.commands.specs.Grammar.{Exact};
+ghost use Rattle.commands.specs.Lists.{each as each_of};
 ghost use Rattle.commands.specs.Lines.{bounded, is_quoted, lexeme, Leads, read, in_quotes, tokens_of, plain_word, texts, words_of};
 ghost use Rattle.commands.specs.Lines.{command_word, arguments_of, first_line, later_lines};
 ghost use Rattle.commands.specs.Readings.{ReadsAs};
@@ -108,7 +109,14 @@ pub fn words<'a>(heap: Global, text: &'a [u8]) -> Result<Vec<&'a [u8]>, Unread>
     ensures { ReadsAs result (λ v. texts v.items) (words_of text.now) }
 {
     let tokens = tokens(heap, text)?;
-    each(heap, tokens.as_slice(), |token| token.plain())
+    plain_words(heap, tokens.as_slice())
+}
+
+// The bytes of tokens that are all plain.
+fn plain_words<'a>(heap: Global, tokens: &[Token<'a>]) -> Result<Vec<&'a [u8]>, Unread>
+    ensures { ReadsAs result (λ v. texts v.items) (each_of plain_word (map lexeme tokens.now)) }
+{
+    each(heap, tokens, |token| token.plain())
 }
 
 // The tokens of a text are those of the grammar: the reader finds them all, and finds no others.
