@@ -1,5 +1,5 @@
 -- No fault is due exactly to 1 to 32 ascending cells of one kind.
-use Rattle.std.proofs.Common.{◌≡◌, ℕ, ◌≤◌, Bool, true, false, leb, List, [], ◌∷◌, length, Some, None, Option, sym, refl, ap, ◌∙◌, inl, inr, arith}
+use Rattle.std.proofs.Common.{◌≡◌, ℕ, ◌≤◌, Bool, true, false, ◌&&◌, leb, List, [], ◌∷◌, length, Some, None, Option, sym, refl, ap, ◌∙◌, inl, inr, arith}
 use mathlib.Core.Bool.{false≢true}
 use Prim.Native.Nat.{Ordering}
 use Rattle.std.proofs.lemmas.Bool.{and_from, and_parts, le-leb, leb-true}
@@ -8,7 +8,7 @@ use Rattle.model.specs.Faults.{Fault, or_then}
 use Rattle.model.specs.Orders.{Order, by_bytes}
 use Rattle.model.specs.Sorts.{Kind, numbers, texts, of_kind}
 use Rattle.model.specs.Values.{Value, num, text, ◌∈◌, every}
-use Rattle.conditions.specs.Picks.{kind_of_value, is_cell, is_few, of_first_kind, below_next, rising, unless, pick_fault, BelowNext, Rising, Choice, PicksRight}
+use Rattle.conditions.specs.Picks.{kind_of_value, is_cell, is_choice, is_few, of_first_kind, below_next, rising, unless, pick_fault, BelowNext, Rising, Choice, PicksRight}
 
 every_in : (p : Value → Bool) (l : List Value) → every p l ≡ true → (v : Value) → v ∈ l → p v ≡ true
 every_in p [] h v m = absurd m
@@ -88,3 +88,7 @@ left l c =
 
 pub picks_right : PicksRight
 picks_right l = (right l, left l)
+
+-- what is one to 32 cells of one kind, ascending, is a choice
+pub choice_from : (l : List Value) → is_few l ≡ true → of_first_kind l ≡ true → rising by_bytes l ≡ true → is_choice l ≡ true
+choice_from l e e₁ e₂ = and_from (is_few l) (of_first_kind l && rising by_bytes l) e (and_from (of_first_kind l) (rising by_bytes l) e₁ e₂)

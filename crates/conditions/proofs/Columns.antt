@@ -20,7 +20,7 @@ one_value false false f g = refl
 pub has_same : (X Y : ColumnSet) → Same X Y → (i : ℕ) → has X i ≡ has Y i
 has_same X Y s i = one_value (has X i) (has Y i) (s.0 i) (s.1 i)
 
-same_has : (X Y : ColumnSet) → ((i : ℕ) → has X i ≡ has Y i) → Same X Y
+pub same_has : (X Y : ColumnSet) → ((i : ℕ) → has X i ≡ has Y i) → Same X Y
 same_has X Y e = (λ i h. sym (e i) ∙ h, λ i h. e i ∙ h)
 
 pub same_union : (X X' Y Y' Z Z' : ColumnSet) → Z ≡ union X Y → Z' ≡ union X' Y' → Same X X' → Same Y Y' → Same Z Z'

@@ -83,7 +83,7 @@ module _ (xs : List program.Column) (w : List ℕ) where
   place_cut o e = ap (cut 8) e ∙ sym (lookup_take 8 (named_columns xs) w)
 
   -- one of the eight
-  some_place : (i : ℕ) → Some i ≡ lookup (named_columns xs) w → i < 8 → Some i ≡ lookup (first_eight xs) w
+  pub some_place : (i : ℕ) → Some i ≡ lookup (named_columns xs) w → i < 8 → Some i ≡ lookup (first_eight xs) w
   some_place i e h = sym (ap (λ b. cond b (Some i) None) (lt-ltb i 8 h)) ∙ place_cut (Some i) e
 
   pub some_kind : (i : ℕ) (x : program.Column) → Some i ≡ lookup (named_columns xs) w → i < 8 → Some (kind_of (get_or xs i x).kind) ≡ kind_named (first_eight xs) w
