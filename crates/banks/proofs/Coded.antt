@@ -1,5 +1,5 @@
 -- The turns of the loops that write. Assumes nothing.
-use Rattle.std.proofs.Common.{◌≡◌, ℕ, ◌+◌, ◌/◌, ◌%◌, cond, ltb, List, [], ◌∷◌, ◌++◌, map, refl, ap, ◌∙◌, append_assoc}
+use Rattle.std.proofs.Common.{◌≡◌, ℕ, ◌+◌, ◌/◌, ◌%◌, cond, ltb, List, [], ◌∷◌, ◌++◌, map, length, refl, ap, ◌∙◌, append_assoc}
 use Rattle.std.specs.List.{flat_map}
 use Rattle.model.specs.Banks.{coded_cell, coded_row, coded_rows, kind_byte}
 use Rattle.cells.specs.Held.{kind_of, value, tuple, tuples}
@@ -30,6 +30,10 @@ kinds_of C = kind_bytes (map named_column C)
 pub kinds_mapped : (C : List Column) → map (λ c. kind_byte (kind_of c.kind)) C ≡ kinds_of C
 kinds_mapped [] = refl
 kinds_mapped (c ∷ C) = ap (λ (l : List ℕ). kind_byte (kind_of c.kind) ∷ l) (kinds_mapped C)
+
+-- a number of elements, and then those
+pub pushed_then : (was mid last ys zs : List ℕ) (n : ℕ) → mid ≡ was ++ n ∷ [] → last ≡ mid ++ ys → ys ≡ zs → n ≡ length zs → last ≡ was ++ length zs ∷ zs
+pushed_then was mid last ys zs n p q e l = q ∙ ap (λ m. m ++ ys) p ∙ append_assoc was (n ∷ []) ys ∙ ap (λ y. was ++ n ∷ y) e ∙ ap (λ m. was ++ m ∷ zs) l
 
 -- the parts of a bank, one after another
 pub in_turn : (was a b c d h k g r : List ℕ) → a ≡ was ++ h → b ≡ a ++ k → c ≡ b ++ g → d ≡ c ++ r → d ≡ was ++ ((h ++ k) ++ (g ++ r))

@@ -26,7 +26,7 @@ reported (Ok u) = Ok outcome.Accepted
 reported (Err e) = Err (stopped e)
 
 -- some member stands at each place of a list
-item : {A : Type 0} (l : List A) (i : ℕ) → i < length l → (x : A) × (x ≡ get_or l i x)
+pub item : {A : Type 0} (l : List A) (i : ℕ) → i < length l → (x : A) × (x ≡ get_or l i x)
 item [] i h = absurd (omega arith)
 item (a ∷ l) zero h = (a, refl)
 item (a ∷ l) (suc i) h = item l i (omega arith)

@@ -1,3 +1,4 @@
+pub mod Adding
 pub mod Mapped
 pub mod Placing
 pub mod Refusing
